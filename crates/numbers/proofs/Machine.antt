@@ -1,0 +1,68 @@
+-- The machine's signed tests, casts and negation, said of `plusOf` and `minusOf`. Assumes nothing.
+use mathlib.Core.Path.{_≡_, refl, sym, ap, subst, _∙_}
+use mathlib.Core.Bool.{Bool, true, false}
+use Prim.Native.Nat.{ℕ, zero, suc, _≤_}
+use native.Mathlib.Omega.{arith}
+use lib.IntN.{ℤ, pos, negsuc, negℤ, natAbs, _-ℤ_, +ℤ-idl}
+use lib.Signed.{ltZ, leZ, nonNeg, natAbs-le}
+use lib.Dec.{T, leb·zero, leb·suc-zero}
+use mir.Syntax.{w32, w64}
+use mir.Val.{Fits, SFits, toZ, ofZ}
+use mir.Facts.{toZ-ofZ, sfits-widen, toZ-pos}
+use Rattle.numbers.specs.Stored.{negative, plusOf, minusOf, greatestStored, Reads}
+
+-- ---- 0 or more
+
+pub upper-fits : (x : ℤ) → SFits w32 x → leZ (pos 0) x ≡ true → T (nonNeg x) × Fits w64 (natAbs x)
+upper-fits (pos n) f e = (tt, record { fits = omega (arith, f .sfits) })
+upper-fits (negsuc n) f e = absurd (subst T (sym e) tt)
+
+pub upper : (x : ℤ) → SFits w32 x → leZ (pos 0) x ≡ true → Reads (plusOf x) (natAbs x)
+upper (pos n) f e = record { is = refl; small = natAbs-le (pos n) (f .sfits) }
+upper (negsuc n) f e = absurd (subst T (sym e) tt)
+
+pub upper-not : (x : ℤ) → leZ (pos 0) x ≡ false → Reads (plusOf x) 0
+upper-not (pos n) e = absurd (subst T e (subst T (sym (leb·zero n)) tt))
+upper-not (negsuc n) e = record { is = refl; small = omega arith }
+
+-- ---- below 0
+
+pub lower-fits : (x : ℤ) → SFits w32 x → ltZ x (pos 0) ≡ true → T (nonNeg (negℤ x)) × Fits w64 (natAbs (negℤ x))
+lower-fits (pos n) f e = absurd (subst T (leb·suc-zero n) (subst T (sym e) tt))
+lower-fits (negsuc n) f e = (tt, record { fits = omega (arith, f .sfits) })
+
+pub lower : (x : ℤ) → SFits w32 x → ltZ x (pos 0) ≡ true → Reads (minusOf x) (natAbs (negℤ x))
+lower (pos n) f e = absurd (subst T (leb·suc-zero n) (subst T (sym e) tt))
+lower (negsuc n) f e = record { is = refl; small = omega (arith, f .sfits) }
+
+pub lower-not : (x : ℤ) → ltZ x (pos 0) ≡ false → Reads (minusOf x) 0
+lower-not (pos n) e = record { is = refl; small = omega arith }
+lower-not (negsuc n) e = absurd (subst T e tt)
+
+-- ---- negation
+
+pub neg-fits : (x : ℤ) → SFits w32 x → SFits w64 (negℤ x)
+neg-fits (pos zero) f = record { sfits = omega arith }
+neg-fits (pos (suc n)) f = record { sfits = omega (arith, f .sfits) }
+neg-fits (negsuc n) f = record { sfits = omega (arith, f .sfits) }
+
+-- The machine's `0 - y` at a number y that is x.
+pub negated : {y : ℤ} (x : ℤ) → y ≡ x → pos 0 -ℤ y ≡ negℤ x
+negated x e = +ℤ-idl _ ∙ ap negℤ e
+
+-- x, read after it was cast to 64 bits.
+pub wide : (x : ℤ) → SFits w32 x → toZ w64 (ofZ w64 (toZ w32 (ofZ w32 x))) ≡ x
+wide x f = rw (toZ-ofZ f) (toZ-ofZ (sfits-widen tt f))
+
+-- ---- a number that is written
+
+pub written : (n : ℕ) → n ≤ greatestStored → toZ w32 n ≡ pos n
+written n h = toZ-pos w32 (omega arith)
+
+pub negative-is : (n : ℕ) → negℤ (pos n) ≡ negative n
+negative-is zero = refl
+negative-is (suc n) = refl
+
+pub negative-fits : (n : ℕ) → n ≤ greatestStored → SFits w32 (negℤ (pos n))
+negative-fits zero h = record { sfits = omega arith }
+negative-fits (suc n) h = record { sfits = omega arith }

@@ -1,0 +1,70 @@
+// What a stored i32 says on either side of 0, and how one is written. Reads and stores are total: past the end a read
+// gives 0 and a store does nothing, so that no caller argues about bounds.
+ghost use mathlib.Core.Path.{_≡_};
+ghost use Prim.Native.Nat.{_≤_};
+ghost use lib.ListN.{set};
+ghost use Rattle.numbers.specs.Stored.{positive, negative, plusOf, minusOf, plusAt, minusAt, greatestStored, Reads};
+
+// x, or 0 where it is negative.
+pub fn plus(x: i32) -> usize
+    ensures { λ r. ⌜ Reads (plusOf x) r ⌝ }
+{
+    if 0 <= x { x as usize } else { 0 }
+}
+
+// Minus x, or 0 where x is not negative. The detour by 64 bits is for the least i32, whose negative no i32 holds.
+pub fn minus(x: i32) -> usize
+    ensures { λ r. ⌜ Reads (minusOf x) r ⌝ }
+{
+    if x < 0 { (-(x as i64)) as usize } else { 0 }
+}
+
+// The number n.
+pub fn as_plus(n: usize) -> i32
+    requires { ⌜ n ≤ greatestStored ⌝ }
+    ensures { λ r. ⌜ r ≡ positive n ⌝ }
+{
+    n as i32
+}
+
+// Minus n.
+pub fn as_minus(n: usize) -> i32
+    requires { ⌜ n ≤ greatestStored ⌝ }
+    ensures { λ r. ⌜ r ≡ negative n ⌝ }
+{
+    -(n as i32)
+}
+
+// The element i, or 0 where it is negative or past the end.
+pub fn plus_at(s: &[i32], i: usize) -> usize
+    ensures { λ r. ⌜ Reads (plusAt (now (s .entry)) i) r ⌝ }
+{
+    if i < s.len() { plus(s[i]) } else { 0 }
+}
+
+// Minus the element i, or 0 where it is not negative or past the end.
+pub fn minus_at(s: &[i32], i: usize) -> usize
+    ensures { λ r. ⌜ Reads (minusAt (now (s .entry)) i) r ⌝ }
+{
+    if i < s.len() { minus(s[i]) } else { 0 }
+}
+
+// Stores n as the element i; past the end nothing is stored.
+pub fn put_plus(s: &mut [i32], i: usize, n: usize)
+    requires { ⌜ n ≤ greatestStored ⌝ }
+    ensures { λ _. ⌜ now (s .exit) ≡ set (now (s .entry)) i (positive n) ⌝ }
+{
+    if i < s.len() {
+        s[i] = as_plus(n);
+    }
+}
+
+// Stores minus n as the element i; past the end nothing is stored.
+pub fn put_minus(s: &mut [i32], i: usize, n: usize)
+    requires { ⌜ n ≤ greatestStored ⌝ }
+    ensures { λ _. ⌜ now (s .exit) ≡ set (now (s .entry)) i (negative n) ⌝ }
+{
+    if i < s.len() {
+        s[i] = as_minus(n);
+    }
+}

@@ -1,0 +1,2 @@
+-- What the proofs of several functions use, and laws for the crates above.
+pub mod Codes

@@ -1,0 +1,111 @@
+-- The eight calls: for each, one total function from what is lent and given at entry to the answer and every element and byte
+-- at exit, refusals included. The public contracts cite these, at document 01's kind of table and profile.
+use Prim.Native.Nat.{ℕ, _*_}
+use mathlib.Core.Bool.{Bool, cond}
+use mathlib.Core.List.{List}
+use lib.ListN.{length}
+use lib.Seq.{sets}
+use lib.IntN.{ℤ}
+use lib.Dec.{leb, ltb}
+use Rattle.rules.specs.declared.Answer.{Answer}
+use Rattle.rules.specs.declared.Answer.the-variants.{Done, Size, Key, Damaged, Absent, NoSpace}
+use Rattle.rules.specs.Answers.{isDone, found}
+use Rattle.rules.specs.WhatTheIndexDoes.{Profile, isIdentifier, rightLengths, lastCell}
+use Rattle.rules.specs.Table.{Table}
+use Rattle.rules.specs.ASoundTable.{freshBase, freshCheck}
+use Rattle.rules.specs.Finding.{rowFound}
+use Rattle.rules.specs.Listing.{listing}
+use Rattle.rules.specs.Commands.{Command, insert, delete, find, compact, Outcome, answered}
+use Rattle.rules.specs.Rendering.{Kind, renderBase, renderCheck, readCells, readTable}
+use Rattle.rules.specs.ARun.{sheetLines, answeredLines}
+
+-- The answer, and the two arrays at exit.
+pub record Edited : Type 0 where
+  pub answer : Answer
+  pub base : List ℤ
+  pub check : List ℤ
+
+-- The answer, and the buffer at exit.
+pub record Written : Type 0 where
+  pub answer : Answer
+  pub out : List ℕ
+
+-- The answer, the two arrays and the buffer at exit.
+pub record Ran : Type 0 where
+  pub answer : Answer
+  pub base : List ℤ
+  pub check : List ℤ
+  pub out : List ℕ
+
+-- A refused call changes no element.
+abbrev pub unchanged : List ℤ → List ℤ → Answer → Edited
+unchanged base check a = record { answer = a; base = base; check = check }
+
+module _ (P : Profile) (base check : List ℤ) where
+  -- fresh: SIZE, or done.
+  unfoldable pub freshCall : Edited
+  freshCall =
+      let done : Edited = record { answer = Done 0; base = freshBase (length base); check = freshCheck P (length base) } in
+      cond (rightLengths base check) done (unchanged base check Size)
+
+  -- find: SIZE, KEY, then the walk; no audit.
+  unfoldable pub findCall : List ℕ → Answer
+  findCall key =
+      let row = rowFound base check P key in
+      let walked = cond (ltb 0 row) (found row) Absent in
+      let keyed = cond (isIdentifier P key) walked Key in
+      cond (rightLengths base check) keyed Size
+
+module _ (K : Kind) (P : Profile) (base check : List ℤ) where
+  -- What an outcome leaves in the arrays: where it is done, its table's rendering.
+  unfoldable pub stored : Outcome → Edited
+  stored o =
+      let n = length base in
+      let done : Edited = record { answer = o .answer; base = renderBase n (o .table); check = renderCheck K P n (o .table) } in
+      cond (isDone (o .answer)) done (unchanged base check (o .answer))
+
+  -- SIZE, then KEY, NUMBER, DAMAGED and what the command itself meets.
+  unfoldable pub editCall : Command → Edited
+  editCall command =
+      let audited = stored (answered P (lastCell base) (readTable base check) (K .audit P base check) command) in
+      cond (rightLengths base check) audited (unchanged base check Size)
+
+  -- insert, delete and compact edit; find walks.
+  unfoldable pub commandCall : Command → Edited
+  commandCall (insert key n) = editCall (insert key n)
+  commandCall (delete key) = editCall (delete key)
+  commandCall (find key) = unchanged base check (findCall P base check key)
+  commandCall (compact n) = editCall (compact n)
+
+  -- audit: SIZE, DAMAGED, or done.
+  unfoldable pub auditCall : Answer
+  auditCall =
+      let audited = cond (K .audit P base check) (Done 0) Damaged in
+      cond (rightLengths base check) audited Size
+
+  -- list: SIZE, DAMAGED, NO SPACE, or done with the bytes written; the bytes past them stay.
+  unfoldable pub listCall : List ℕ → Written
+  listCall out =
+      let refused : Answer → Written = λ a. record { answer = a; out = out } in
+      let bytes = listing P (readCells base check) in
+      let done : Written = record { answer = Done (length bytes); out = sets out 0 bytes } in
+      let measured = cond (leb (length bytes) (length out)) done (refused NoSpace) in
+      let audited = cond (K .audit P base check) measured (refused Damaged) in
+      cond (rightLengths base check) audited (refused Size)
+
+  -- run: SIZE, DAMAGED, NO SPACE for the whole; then the lines in turn, done with the number of them.
+  unfoldable pub runCall : List ℕ → List ℕ → Ran
+  runCall sheet out =
+      let refused : Answer → Ran = λ a. record { answer = a; base = base; check = check; out = out } in
+      let n = length base in
+      let lines = sheetLines sheet in
+      let end = answeredLines P (lastCell base) (readTable base check) lines in
+      let done : Ran = record {
+        answer = Done (length lines);
+        base = renderBase n (end .table);
+        check = renderCheck K P n (end .table);
+        out = sets out 0 (end .bytes);
+      } in
+      let measured = cond (leb (11 * length lines) (length out)) done (refused NoSpace) in
+      let audited = cond (K .audit P base check) measured (refused Damaged) in
+      cond (rightLengths base check) audited (refused Size)

@@ -1,0 +1,45 @@
+-- Document 01, 'Finding': the walk through two arrays of any contents. It runs no audit and does not read base[0].
+use Prim.Native.Nat.{ℕ, zero, suc, _+_}
+use mathlib.Core.Bool.{Bool, cond, _&&_}
+use mathlib.Core.List.{List, [], _∷_, map}
+use lib.IntN.{ℤ}
+use lib.Dec.{leb, eqb}
+use Rattle.numbers.specs.Stored.{plusAt, minusAt}
+use Rattle.rules.specs.WhatTheIndexDoes.{END, Profile, isRow, lastCell}
+
+-- Where a walk ended, and how many labels led on.
+pub record Reached : Type 0 where
+  pub cell : ℕ
+  pub met : ℕ
+
+module _ (base check : List ℤ) where
+  -- Whether the walk goes on from s with the label c: base[s] is 1 or more, t = base[s] + c is not past the last cell, and
+  -- check[t] = s. From 0, which is no cell, it does not.
+  unfoldable pub leads : ℕ → ℕ → Bool
+  leads s c =
+      leb 1 s
+      && (leb 1 (plusAt base s)
+      && (leb (plusAt base s + c) (lastCell base) && eqb (plusAt check (plusAt base s + c)) s))
+
+  -- The cell to which the label c leads from s, or 0.
+  unfoldable pub nextAt : ℕ → ℕ → ℕ
+  nextAt s c = cond (leads s c) (plusAt base s + c) 0
+
+  -- The walk from s along labels; its cell is 0 where one of them leads nowhere.
+  unfoldable pub walkAt : ℕ → List ℕ → Reached
+  walkAt s [] = record { cell = s; met = 0 }
+  walkAt s (c ∷ cs) =
+      let t = nextAt s c in
+      let on = walkAt t cs in
+      let further : Reached = record { cell = on .cell; met = suc (on .met) } in
+      cond (eqb t 0) (record { cell = 0; met = 0 }) further
+
+  -- The cell after the end mark, or 0.
+  unfoldable pub leafAt : Profile → List ℕ → ℕ
+  leafAt P key = nextAt (walkAt 1 (map (P .code) key) .cell) END
+
+  -- The row found: minus base[t] after the end mark, if it is in the range of rows; otherwise 0.
+  unfoldable pub rowFound : Profile → List ℕ → ℕ
+  rowFound P key =
+      let t = leafAt P key in
+      cond (leb 1 t && isRow (minusAt base t)) (minusAt base t) 0

@@ -1,0 +1,102 @@
+// Document 01's types: rows and cells, kept apart, the alphabet of label codes, and what a call answers.
+// What the document says of them stands in specs/, a file for each of its sections.
+ghost use mathlib.Core.Path.{_≡_};
+ghost use Rattle.rules.specs.WhatTheIndexDoes.{Code, characterOf};
+ghost use Rattle.rules.specs.Answers.{number, value};
+
+// A row's number. It is no cell: nothing can be looked up in the arrays by it.
+pub struct Row(pub u32);
+
+// A cell's number. It is no row: no call answers with one.
+pub struct Cell(pub usize);
+
+// The label codes.
+pub struct Alphabet;
+
+impl Alphabet {
+    pub const END: usize = 1;
+
+    pub const GREATEST: usize = 38;
+
+    // The code of a character, or 0 where it has none.
+    pub fn code(ch: u8) -> usize
+        ensures { λ r. ⌜ Code ch r ⌝ }
+    {
+        match ch {
+            b'a'..=b'z' => ch as usize - 95,
+            b'0'..=b'9' => ch as usize - 20,
+            b'-' => Alphabet::GREATEST,
+            _ => 0,
+        }
+    }
+
+    // The character of a code, or 0 where it has none.
+    pub fn character(code: usize) -> u8
+        ensures { λ r. ⌜ r ≡ characterOf code ⌝ }
+    {
+        match code {
+            2..=27 => (code + 95) as u8,
+            28..=37 => (code + 20) as u8,
+            Alphabet::GREATEST => b'-',
+            _ => 0,
+        }
+    }
+}
+
+// What a call answers.
+pub enum Answer {
+    // Done, with a count: children that changed cell, moves, bytes or lines; 0 where the document names no value.
+    Done(usize),
+    // Done, with a row: the one found, or the one removed.
+    Found(Row),
+    Size,
+    Key,
+    Number,
+    Damaged,
+    // Refused, with the row held.
+    Present(Row),
+    Absent,
+    NoRoom,
+    NoSpace,
+    Line,
+}
+
+impl Answer {
+    // The answer's number.
+    pub fn number(self) -> u32
+        ensures { λ r. ⌜ r ≡ number self ⌝ }
+    {
+        match self {
+            Answer::Done(_) => 0,
+            Answer::Found(_) => 0,
+            Answer::Size => 1,
+            Answer::Key => 2,
+            Answer::Number => 3,
+            Answer::Damaged => 4,
+            Answer::Present(_) => 5,
+            Answer::Absent => 6,
+            Answer::NoRoom => 7,
+            Answer::NoSpace => 8,
+            Answer::Line => 9,
+        }
+    }
+
+    // The answer's value.
+    pub fn value(self) -> usize
+        ensures { λ r. ⌜ r ≡ value self ⌝ }
+    {
+        match self {
+            Answer::Done(n) => n,
+            Answer::Found(row) => row.0 as usize,
+            Answer::Present(row) => row.0 as usize,
+            Answer::Size => 0,
+            Answer::Key => 0,
+            Answer::Number => 0,
+            Answer::Damaged => 0,
+            Answer::Absent => 0,
+            Answer::NoRoom => 0,
+            Answer::NoSpace => 0,
+            Answer::Line => 0,
+        }
+    }
+}

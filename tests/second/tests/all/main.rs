@@ -1,0 +1,12 @@
+//! All tests of the second program, one module for each subject.
+
+mod also_run;
+mod audit;
+mod common;
+mod damage;
+mod figures;
+mod generator;
+mod histories;
+mod printed_sheet;
+mod refusals;
+mod traps;
