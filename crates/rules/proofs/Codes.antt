@@ -1,16 +1,16 @@
 -- The alphabet: its two functions undo each other. Proved once over the alphabet's size, by a test that is computed at each
 -- character and each code. Assumes nothing.
-use mathlib.Core.Path.{_≡_, refl, sym, ap, subst, _∙_}
+use mathlib.Core.Path.{_≡_, refl, sym, subst}
 use mathlib.Core.Logic.{⊎-elim}
-use mathlib.Core.Bool.{Bool, true, false, cond, _&&_, _||_}
-use Prim.Native.Nat.{ℕ, zero, suc, _+_, _≤_, _<_}
+use mathlib.Core.Bool.{Bool, true, false, _&&_, _||_}
+use Prim.Native.Nat.{ℕ, zero, suc, _≤_, _<_}
 use native.Mathlib.Nat.{not-suc-le-zero, le-of-suc-le-suc, eq-or-lt-of-le}
 use native.Mathlib.Omega.{arith}
 use lib.Dec.{T, leb, ltb, eqb, eqb→eq, leb→le}
 use borrow.Author.Tests.{le-leb, lt-leb, le-ltb, ne-eqb}
 use Rattle.numbers.proofs.Cases.{lt-or-ge}
 use Rattle.rules.specs.Ranges.{within}
-use Rattle.rules.specs.WhatTheIndexDoes.{codeOf, characterOf, GREATEST, Code, Profile, document01, RoundTrip}
+use Rattle.rules.specs.WhatTheIndexDoes.{codeOf, characterOf, Code, Profile, document01, RoundTrip}
 
 -- ---- a range, tested
 

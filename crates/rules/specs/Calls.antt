@@ -1,7 +1,7 @@
 -- The eight calls: for each, one total function from what is lent and given at entry to the answer and every element and byte
 -- at exit, refusals included. The public contracts cite these, at document 01's kind of table and profile.
 use Prim.Native.Nat.{ℕ, _*_}
-use mathlib.Core.Bool.{Bool, cond}
+use mathlib.Core.Bool.{cond}
 use mathlib.Core.List.{List}
 use lib.ListN.{length}
 use lib.Seq.{sets}
@@ -11,7 +11,6 @@ use Rattle.rules.specs.declared.Answer.{Answer}
 use Rattle.rules.specs.declared.Answer.the-variants.{Done, Size, Key, Damaged, Absent, NoSpace}
 use Rattle.rules.specs.Answers.{isDone, found}
 use Rattle.rules.specs.WhatTheIndexDoes.{Profile, isIdentifier, rightLengths, lastCell}
-use Rattle.rules.specs.Table.{Table}
 use Rattle.rules.specs.ASoundTable.{freshBase, freshCheck}
 use Rattle.rules.specs.Finding.{rowFound}
 use Rattle.rules.specs.Listing.{listing}
@@ -70,12 +69,24 @@ module _ (K : Kind) (P : Profile) (base check : List ℤ) where
       let audited = stored (answered P (lastCell base) (readTable base check) (K .audit P base check) command) in
       cond (rightLengths base check) audited (unchanged base check Size)
 
-  -- insert, delete and compact edit; find walks.
+  -- insert, with a row.
+  abbrev pub insertCall : List ℕ → ℕ → Edited
+  insertCall key row = editCall (insert key row)
+
+  -- delete.
+  abbrev pub deleteCall : List ℕ → Edited
+  deleteCall key = editCall (delete key)
+
+  -- compact, with the number n.
+  abbrev pub compactCall : ℕ → Edited
+  compactCall n = editCall (compact n)
+
+  -- The call of a command.
   unfoldable pub commandCall : Command → Edited
-  commandCall (insert key n) = editCall (insert key n)
-  commandCall (delete key) = editCall (delete key)
+  commandCall (insert key row) = insertCall key row
+  commandCall (delete key) = deleteCall key
   commandCall (find key) = unchanged base check (findCall P base check key)
-  commandCall (compact n) = editCall (compact n)
+  commandCall (compact n) = compactCall n
 
   -- audit: SIZE, DAMAGED, or done.
   unfoldable pub auditCall : Answer

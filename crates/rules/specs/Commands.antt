@@ -9,8 +9,8 @@ use Rattle.rules.specs.declared.Answer.the-variants.{Done, Key, Number, 
 use Rattle.rules.specs.Answers.{found, present}
 use Rattle.rules.specs.WhatTheIndexDoes.{Profile, isIdentifier, isRow}
 use Rattle.rules.specs.Table.{Table, lookup}
-use Rattle.rules.specs.Insertion.{Course, inserted}
-use Rattle.rules.specs.DeletionAndCompaction.{Moves, deleted, compacted}
+use Rattle.rules.specs.Insertion.{inserted}
+use Rattle.rules.specs.DeletionAndCompaction.{deleted, compacted}
 
 -- One insert, delete, find or compact, with what the caller gives.
 pub data Command : Type 0 where

@@ -1,6 +1,6 @@
 -- Document 01, 'Deletion and compaction', on a table, by the plain method.
 use Prim.Native.Nat.{ℕ, zero, suc}
-use mathlib.Core.Bool.{Bool, cond, _&&_}
+use mathlib.Core.Bool.{cond, _&&_}
 use mathlib.Core.List.{List, [], _∷_, reverse}
 use lib.Dec.{ltb, eqb}
 use Rattle.rules.specs.WhatTheIndexDoes.{Profile, labels}

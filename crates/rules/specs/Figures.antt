@@ -179,6 +179,7 @@ taken12 t = taken11 t && not (within 18 19 t || within 21 22 t)
 
 -- ---- the table
 
+-- P1 to P12, in the document's order.
 pub figures : List Figure
 figures =
     -- P1: fresh, whatever the old contents

@@ -1,5 +1,5 @@
 -- Document 01, 'Finding': the walk through two arrays of any contents. It runs no audit and does not read base[0].
-use Prim.Native.Nat.{ℕ, zero, suc, _+_}
+use Prim.Native.Nat.{ℕ, suc, _+_}
 use mathlib.Core.Bool.{Bool, cond, _&&_}
 use mathlib.Core.List.{List, [], _∷_, map}
 use lib.IntN.{ℤ}

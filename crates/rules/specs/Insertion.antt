@@ -1,5 +1,5 @@
 -- Document 01, 'Insertion', on a table, by the plain method.
-use Prim.Native.Nat.{ℕ, zero, suc, _+_, _-_, max}
+use Prim.Native.Nat.{ℕ, _+_, _-_, max}
 use mathlib.Core.Bool.{Bool, true, cond, _&&_, _||_}
 use mathlib.Core.List.{List, [], _∷_}
 use lib.ListN.{length}
@@ -55,8 +55,7 @@ module _ (P : Profile) (last : ℕ) where
       let codes = childCodes T s (P .greatest) in
       let q = placed (used T) size (c ∷ codes) in
       let on = grow last (relocate T s q) (max size (q + greatestOf (c ∷ codes))) s c cs n in
-      let collision : Course =
-      record { table = on .table; fitted = fits last (c ∷ codes) q && on .fitted; count = length codes } in
+      let collision : Course = record { table = on .table; fitted = fits last (c ∷ codes) q && on .fitted; count = length codes } in
       let plain = grow last T size s c cs n in
       cond (used T (T s .base + c) || ltb last (T s .base + c)) collision plain
 

@@ -1,11 +1,11 @@
 -- Document 01, 'Listing': the entries of a table in order, and their bytes.
 use Prim.Native.Nat.{ℕ, zero, suc, _+_, _-_, _/_, _%_}
-use mathlib.Core.Bool.{Bool, cond}
+use mathlib.Core.Bool.{cond}
 use mathlib.Core.List.{List, [], _∷_, _++_}
 use lib.ListN.{length}
 use lib.Dec.{ltb, eqb}
 use Rattle.rules.specs.WhatTheIndexDoes.{END, Profile}
-use Rattle.rules.specs.Table.{Cells, Table, next}
+use Rattle.rules.specs.Table.{Cells, next}
 
 -- An identifier and its row.
 pub record Entry : Type 0 where
@@ -28,7 +28,7 @@ tried P visit T s key zero = []
 tried P visit T s key (suc n) =
     let c = listed P (suc n) in
     let below = visit (next T s c) (spelt P key c) in
-    cond (eqb (next T s c) 0) [] below ++ tried P visit T s key n
+    (cond (eqb (next T s c) 0) [] below) ++ tried P visit T s key n
 
 -- A visit of the cell s, to which key leads: a leaf is an entry; of any other cell the labels are tried, while there is depth.
 unfoldable pub visited : Profile → ℕ → Cells → ℕ → List ℕ → List Entry

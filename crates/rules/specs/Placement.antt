@@ -1,5 +1,5 @@
 -- Document 01, 'Placement': the placed base, by trying 1, 2, 3 and upward, and what the inner search finds along a chain.
-use Prim.Native.Nat.{ℕ, zero, suc, _+_, min, max}
+use Prim.Native.Nat.{ℕ, _+_, min, max}
 use mathlib.Core.Bool.{Bool, true, not, _&&_, _||_}
 use mathlib.Core.List.{List, [], _∷_}
 use lib.Dec.{leb, ltb}

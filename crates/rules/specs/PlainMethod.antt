@@ -1,7 +1,6 @@
 -- The plain method of demand 3. Its table has the same size and the same used cells; check[0] and both numbers of every free
 -- cell are 0. It finds each placed base by trying 1, 2, 3 and upward, as every command in `Commands` does; its calls
 -- are those of `Calls` at this kind of table.
-use Prim.Native.Nat.{ℕ}
 use mathlib.Core.Bool.{Bool, _&&_, _||_}
 use mathlib.Core.List.{List}
 use lib.ListN.{length}

@@ -1,7 +1,7 @@
 -- A table as an abstract thing: its size and, for each cell, a parent, a base and a row. It knows no chain and no minus sign;
 -- both belong to the rendering into the two arrays. A table is a function of cells, so that no bound is argued about.
 use Prim.Native.Nat.{ℕ, zero, suc, _+_}
-use mathlib.Core.Bool.{Bool, true, false, cond, _&&_, _||_}
+use mathlib.Core.Bool.{Bool, cond, _&&_, _||_}
 use mathlib.Core.List.{List, [], _∷_}
 use lib.ListN.{length}
 use lib.Dec.{ltb, eqb}

@@ -130,8 +130,9 @@ fn identifier(random: &mut Random) -> Vec<u8> {
         0 => key.clear(),
         1 => key.push(b'A'),
         2 => key = vec![b'a'; 33],
-        3 => key.push(b'-'),
-        4 => key.push(b'0'),
+        3 => key = vec![b'a'; 32],
+        4 => key.push(b'-'),
+        5 => key.push(b'0'),
         _ => {}
     }
     key
@@ -214,6 +215,41 @@ fn history(random: &mut Random, cases: &mut Cases) {
     }
 }
 
+/// A table whose one leaf, in cell 2, lies `steps` below the root: cells 3, 4 and so on are a
+/// path of labels a. It is sound from 2 to 33 steps.
+fn path(steps: usize) -> Lent {
+    let size = steps + 1;
+    let mut parent = 1;
+    let (mut base, mut check) = (vec![size as i32, 1, -7], vec![-(size as i32) - 1, 1, 1]);
+    for cell in 3..=size as i32 {
+        base[parent as usize] = cell - 2;
+        base.push(1);
+        check.push(parent);
+        parent = cell;
+    }
+    check[2] = parent;
+    Lent { base, check, out: vec![255; 90] }
+}
+
+/// The path of two steps, and beside it two cells that are each other's parent: all but rule 7.
+fn ring() -> Lent {
+    let mut lent = path(2);
+    lent.base.extend([3, 2]);
+    lent.check.extend([5, 4]);
+    (lent.base[0], lent.check[0]) = (5, -6);
+    lent
+}
+
+/// Tables that no history makes, at the edges of rule 7.
+fn edges(random: &mut Random, cases: &mut Cases) {
+    for lent in [path(1), path(2), path(32), path(33), path(34), path(35), ring()] {
+        for step in [Step::Audit, Step::List, Step::Find(vec![b'a'; 32]), Step::Compact(9)] {
+            cases.add(&step, &mut lent.clone());
+        }
+        damage(random, &lent, cases);
+    }
+}
+
 const TOP: &str = "-- Written by tests/definitions: what the second program gives.
 use mathlib.Core.Path.{_≡_, refl}
 use mathlib.Core.List.{List, [], _∷_}
@@ -249,6 +285,7 @@ fn main() {
     };
     let mut random = Random::new(seed);
     let mut cases = Cases { text: TOP.to_string(), count: 0 };
+    edges(&mut random, &mut cases);
     for _ in 0..histories {
         history(&mut random, &mut cases);
     }
