@@ -1,2 +1,3 @@
 -- What the proofs of several functions use, and laws for the crates above.
+pub mod Ranges
 pub mod Codes

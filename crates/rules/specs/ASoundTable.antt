@@ -13,7 +13,7 @@ use Rattle.rules.specs.WhatTheIndexDoes.{END, Profile, isRow, rightLengt
 unfoldable pub holds : List ℤ → ℕ → ℕ → Bool
 holds xs i n = eqb (plusAt xs i) n && eqb (minusAt xs i) 0
 
--- The size.
+-- The size, which base[0] states.
 abbrev pub sizeAt : List ℤ → ℕ
 sizeAt base = plusAt base 0
 

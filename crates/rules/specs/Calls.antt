@@ -69,19 +69,19 @@ module _ (K : Kind) (P : Profile) (base check : List ℤ) where
       let audited = stored (answered P (lastCell base) (readTable base check) (K .audit P base check) command) in
       cond (rightLengths base check) audited (unchanged base check Size)
 
-  -- insert, with a row.
+  -- insert is given an identifier and a row.
   abbrev pub insertCall : List ℕ → ℕ → Edited
   insertCall key row = editCall (insert key row)
 
-  -- delete.
+  -- delete is given an identifier.
   abbrev pub deleteCall : List ℕ → Edited
   deleteCall key = editCall (delete key)
 
-  -- compact, with the number n.
+  -- compact is given the number n.
   abbrev pub compactCall : ℕ → Edited
   compactCall n = editCall (compact n)
 
-  -- The call of a command.
+  -- The call that a command of demands 2 and 3 is; find changes no element.
   unfoldable pub commandCall : Command → Edited
   commandCall (insert key row) = insertCall key row
   commandCall (delete key) = deleteCall key

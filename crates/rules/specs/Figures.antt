@@ -155,14 +155,6 @@ base5 = p 3 ∷ p 1 ∷ m 9 ∷ p 1 ∷ p 0 ∷ p 0 ∷ p 0 ∷ p 0 ∷ p 0 ∷ 
 abbrev pub check5 : List ℤ
 check5 = m 4 ∷ p 1 ∷ p 3 ∷ p 1 ∷ p 0 ∷ p 0 ∷ p 0 ∷ p 0 ∷ p 0 ∷ []
 
--- The base of a fresh table of n + 2 elements.
-abbrev freshBase′ : ℕ → List ℤ
-freshBase′ n = p 1 ∷ p 1 ∷ replicate n (p 0)
-
--- The check of a fresh table of n + 2 elements.
-abbrev freshCheck′ : ℕ → List ℤ
-freshCheck′ n = m 2 ∷ p 1 ∷ replicate n (p 0)
-
 -- What P7 prints: 016100000009, then 02616200000007.
 abbrev pub listing7 : List ℕ
 listing7 =
@@ -203,13 +195,13 @@ figures =
       shown = record { answer = Done 28; base = base3; check = check3; out = listing7 ++ replicate 2 255 };
     }
     -- P8: fresh of length 4, insert a is done; of length 3, NO ROOM
-    ∷ figure (freshBase′ 2) (freshCheck′ 2) (command (insert a 9)) (Done 0) (p 3 ∷ p 1 ∷ m 9 ∷ p 1 ∷ []) (m 4 ∷ p 1 ∷ p 3 ∷ p 1 ∷ [])
-    ∷ figure (freshBase′ 1) (freshCheck′ 1) (command (insert a 9)) NoRoom (freshBase′ 1) (freshCheck′ 1)
+    ∷ figure (freshBase 4) (freshCheck document01 4) (command (insert a 9)) (Done 0) (p 3 ∷ p 1 ∷ m 9 ∷ p 1 ∷ []) (m 4 ∷ p 1 ∷ p 3 ∷ p 1 ∷ [])
+    ∷ figure (freshBase 3) (freshCheck document01 3) (command (insert a 9)) NoRoom (freshBase 3) (freshCheck document01 3)
     -- P9: fresh of length 4, insert b or ab is NO ROOM; of length 5, both are done
-    ∷ figure (freshBase′ 2) (freshCheck′ 2) (command (insert b 9)) NoRoom (freshBase′ 2) (freshCheck′ 2)
-    ∷ figure (freshBase′ 2) (freshCheck′ 2) (command (insert ab 9)) NoRoom (freshBase′ 2) (freshCheck′ 2)
-    ∷ figure (freshBase′ 3) (freshCheck′ 3) (command (insert b 9)) (Done 0) (p 4 ∷ p 1 ∷ m 9 ∷ p 0 ∷ p 1 ∷ []) (m 3 ∷ p 1 ∷ p 4 ∷ m 5 ∷ p 1 ∷ [])
-    ∷ figure (freshBase′ 3) (freshCheck′ 3) (command (insert ab 9)) (Done 0) (p 4 ∷ p 1 ∷ m 9 ∷ p 1 ∷ p 1 ∷ []) (m 5 ∷ p 1 ∷ p 4 ∷ p 1 ∷ p 3 ∷ [])
+    ∷ figure (freshBase 4) (freshCheck document01 4) (command (insert b 9)) NoRoom (freshBase 4) (freshCheck document01 4)
+    ∷ figure (freshBase 4) (freshCheck document01 4) (command (insert ab 9)) NoRoom (freshBase 4) (freshCheck document01 4)
+    ∷ figure (freshBase 5) (freshCheck document01 5) (command (insert b 9)) (Done 0) (p 4 ∷ p 1 ∷ m 9 ∷ p 0 ∷ p 1 ∷ []) (m 3 ∷ p 1 ∷ p 4 ∷ m 5 ∷ p 1 ∷ [])
+    ∷ figure (freshBase 5) (freshCheck document01 5) (command (insert ab 9)) (Done 0) (p 4 ∷ p 1 ∷ m 9 ∷ p 1 ∷ p 1 ∷ []) (m 5 ∷ p 1 ∷ p 4 ∷ p 1 ∷ p 3 ∷ [])
     -- P10: P3 with check[4] = -8 is unsound
     ∷ figure base3 (set check3 4 (m 8)) audit Damaged base3 (set check3 4 (m 8))
     -- P11: codes 3, 4, 5: base 28

@@ -14,15 +14,15 @@ pub record Content : Type 0 where
   pub base : ℕ
   pub row : ℕ
 
--- Nothing.
+-- What a free cell holds: nothing.
 abbrev pub free : Content
 free = record { parent = 0; base = 0; row = 0 }
 
--- An inner cell.
+-- What an inner cell holds: its parent and its base.
 abbrev pub inner : ℕ → ℕ → Content
 inner s b = record { parent = s; base = b; row = 0 }
 
--- A leaf.
+-- What a leaf holds: its parent and its row.
 abbrev pub leaf : ℕ → ℕ → Content
 leaf s n = record { parent = s; base = 0; row = n }
 

@@ -46,7 +46,7 @@ pub record Profile : Type 0 where
   -- what check[1] holds
   pub mark : ℕ
 
--- Document 01's.
+-- Document 01's profile.
 abbrev pub document01 : Profile
 document01 = record { code = codeOf; character = characterOf; greatest = GREATEST; limit = 32; mark = 1 }
 

@@ -5,7 +5,7 @@
 //!
 //! usage: definitions SEED HISTORIES
 
-use second::sheets::Random;
+use second::sheets::{line, Random};
 use second::{audit, compact, delete, find, fresh, insert, list, run, Answer, GREATEST_ROW};
 use std::fmt::Write;
 
@@ -106,23 +106,23 @@ impl Cases {
     }
 
     /// The step is done by the second program, and what it shows is stated of the definitions.
-    fn add(&mut self, step: &Step, lent: &mut Lent) {
+    fn add(&mut self, step: &Step, lent: &mut Lent) -> Answer {
         let before = lent.clone();
         let answer = step.by_the_second_program(lent);
         self.state("chained", step, &before, answer, lent);
+        answer
     }
 
-    /// The same, for a command on a sound table, and of the plain method's table too.
+    /// The same on a sound table, and stated of the plain method's table too.
     fn add_both(&mut self, step: &Step, lent: &mut Lent) {
-        let before = lent.clone();
-        let answer = step.by_the_second_program(lent);
-        self.state("chained", step, &before, answer, lent);
-        self.state("plain", step, &before.plain(), answer, &lent.plain());
+        let before = lent.plain();
+        let answer = self.add(step, lent);
+        self.state("plain", step, &before, answer, &lent.plain());
     }
 }
 
 /// Mostly short identifiers over few characters, so that they share beginnings and collide;
-/// some that are no identifiers.
+/// some at the limits, and some that are none.
 fn identifier(random: &mut Random) -> Vec<u8> {
     let length = random.pick(&[1, 1, 2, 2, 2, 3]);
     let mut key = random.word(b"aabbz", length);
@@ -155,7 +155,7 @@ fn edit(random: &mut Random) -> Step {
 }
 
 /// A line of a sheet: mostly a command, sometimes a broken one.
-fn line(random: &mut Random) -> String {
+fn a_line(random: &mut Random) -> Vec<u8> {
     let (operation, key, number) = match edit(random) {
         Step::Insert(key, row) => (1, key, row),
         Step::Delete(key) => (2, key, random.pick(&[0, 0, 0, 1])),
@@ -163,20 +163,19 @@ fn line(random: &mut Random) -> String {
         Step::Compact(n) => (random.pick(&[4, 4, 4, 5]), Vec::new(), n),
         _ => (0, Vec::new(), 0),
     };
-    let characters: String = key.iter().map(|b| format!("{b:02x}")).collect();
-    let text = format!("{operation:02x}{:02x}{characters}{number:08x}", key.len());
+    let text = line(operation, &key, number);
     match random.below(12) {
-        0 => String::new(),
-        1 => text + "0",
-        2 => text.to_uppercase(),
+        0 => Vec::new(),
+        1 => [text, b"0".to_vec()].concat(),
+        2 => text.to_ascii_uppercase(),
         _ => text,
     }
 }
 
 fn sheet(random: &mut Random) -> Vec<u8> {
-    let lines: Vec<String> = (0..random.below(4)).map(|_| line(random)).collect();
-    let end = random.pick(&["", "\n"]);
-    (lines.join("\n") + end).into_bytes()
+    let lines: Vec<Vec<u8>> = (0..random.below(4)).map(|_| a_line(random)).collect();
+    let end: &[u8] = if random.chance(50) { b"\n" } else { b"" };
+    [&lines.join(&b'\n'), end].concat()
 }
 
 /// One element of a table is overwritten; then each call meets it.

@@ -5,7 +5,7 @@ use borrow.Author.Needs.{needs}
 use borrow.Author.Tests.{ne-eqb}
 use Rattle.rules.specs.WhatTheIndexDoes.{characterOf}
 use Rattle.rules.specs.Ranges.{within}
-use Rattle.rules.proofs.Codes.{inside, below, above}
+use Rattle.rules.proofs.Ranges.{inside, below, above}
 use Rattle.rules.proofs.Alphabet.character.Statement.{statement}
 use Rattle.rules.proofs.Alphabet.character.Tie as tie
 

@@ -5,7 +5,8 @@ use borrow.Author.Needs.{needs}
 use borrow.Author.Tests.{ne-eqb}
 use Rattle.rules.specs.WhatTheIndexDoes.{codeOf}
 use Rattle.rules.specs.Ranges.{within}
-use Rattle.rules.proofs.Codes.{inside, below, above, is-code}
+use Rattle.rules.proofs.Ranges.{inside, below, above}
+use Rattle.rules.proofs.Codes.{is-code}
 use Rattle.rules.proofs.Alphabet.code.Statement.{statement}
 use Rattle.rules.proofs.Alphabet.code.Tie as tie
 
