@@ -1,0 +1,120 @@
+-- Demand 2 on abstract tables: after any sequence of commands, refused and invalid ones included, the table has answered and
+-- answers as the plain list that took the same commands. Assumes nothing.
+use mathlib.Core.Path.{_≡_, refl, sym, ap, ap₂, _∙_}
+use mathlib.Core.Logic.{_≢_, ⊎-elim}
+use mathlib.Core.Bool.{true}
+use mathlib.Core.List.{List, [], _∷_, reverse}
+use Prim.Native.Nat.{ℕ, _≤_}
+use native.Mathlib.Omega.{arith}
+use lib.Dec.{ltb}
+use borrow.Author.Tests.{ltb-true, ltb-false, leb-true}
+use Rattle.rules.specs.WhatTheIndexDoes.{Profile, RoundTrip, isIdentifier, labels, isRow}
+use Rattle.rules.specs.Table.{Table, lookup}
+use Rattle.rules.specs.Insertion.{inserted}
+use Rattle.rules.specs.DeletionAndCompaction.{deleted, compacted}
+use Rattle.rules.specs.Listing.{Entry, entries}
+use Rattle.rules.specs.Commands.{Command, insert, delete, find, compact, Outcome, keyAllowed, numberAllowed, carriedOut, answered}
+use Rattle.tree.specs.Soundness.{Sound}
+use Rattle.tree.specs.ThePlainList.{rowIn, without, told, Reply, heard, replied, history}
+use Rattle.tree.proofs.Choices.{some?, branch₂}
+use Rattle.tree.proofs.Steps.{lookup-row}
+use Rattle.tree.proofs.Compaction.{compacted-same}
+use Rattle.tree.proofs.Listing.{listed-live, live-listed}
+use Rattle.tree.proofs.OneIdentifier.{Now, same-list?}
+use Rattle.tree.proofs.Insertion.{inserted-now, inserted-honest}
+use Rattle.tree.proofs.Deletion.{deleted-now, deleted-less}
+use Rattle.tree.proofs.PlainList.{put-own, put-else, without-own, without-else, row-in}
+
+-- A sound table that the arrays hold, and a list with the row of every identifier.
+pub record Agrees (P : Profile) (last : ℕ) (t : Table) (es : List Entry) : Type 0 where
+  pub sound : Sound P t
+  pub fits : t .size ≤ last
+  pub rows : (key : List ℕ) → isIdentifier P key ≡ true → lookup P (t .cells) key ≡ rowIn es key
+
+-- The same answer, and what is left agrees.
+pub record Together (P : Profile) (last : ℕ) (o : Outcome) (r : Reply) : Type 0 where
+  pub answer : o .answer ≡ r .answer
+  pub left : Agrees P last (o .table) (r .list)
+
+module _ {P : Profile} (trip : RoundTrip P) (last : ℕ) where
+  -- ---- one command
+
+  -- The table and the list at an identifier and at every other.
+  now-agrees : {t t′ : Table} (es es′ : List Entry) (key : List ℕ) (n : ℕ) → Agrees P last t es → Now P t key n t′ → t′ .size ≤ last →
+      rowIn es′ key ≡ n → ((j : List ℕ) → j ≢ key → rowIn es′ j ≡ rowIn es j) → Agrees P last t′ es′
+  now-agrees {t} {t′} es es′ key n a now fits here else = record { sound = now .sound; fits = fits; rows = λ j k. ⊎-elim (own j) (other j k) (same-list? j key) }
+    where
+      own : (j : List ℕ) → j ≡ key → lookup P (t′ .cells) j ≡ rowIn es′ j
+      own j e = rw e (now .here ∙ sym here)
+
+      other : (j : List ℕ) → isIdentifier P j ≡ true → j ≢ key → lookup P (t′ .cells) j ≡ rowIn es′ j
+      other j k d = now .else j k d ∙ a .rows j k ∙ sym (else j d)
+
+  module _ {t : Table} (es : List Entry) (a : Agrees P last t es) where
+    inserted-agrees : (key : List ℕ) (n : ℕ) → isIdentifier P key ≡ true → isRow n ≡ true → lookup P (t .cells) key ≡ 0 → inserted P last t key n .fitted ≡ true → Agrees P last (inserted P last t key n .table) (record { key = key; row = n } ∷ es)
+    inserted-agrees key n k row absent fitted =
+        let e : Entry = record { key = key; row = n } in
+        let room = leb-true _ _ (sym (inserted-honest trip last (a .sound) key n k (a .fits)) ∙ fitted) in
+        now-agrees es (e ∷ es) key n a (inserted-now trip last (a .sound) key n k row absent) room (put-own e es) (put-else e es)
+
+    deleted-agrees : (key : List ℕ) → isIdentifier P key ≡ true → 1 ≤ lookup P (t .cells) key → Agrees P last (deleted P t key) (without es key)
+    deleted-agrees key k live =
+        let less = deleted-less (a .sound) key live in
+        now-agrees es (without es key) key 0 a (deleted-now (a .sound) key live trip k) (omega (arith, a .fits)) (without-own es key) (without-else es key)
+
+    compacted-agrees : (n : ℕ) → Agrees P last (compacted P n t .table) es
+    compacted-agrees n =
+        let s = compacted-same n (a .sound) in
+        record {
+          sound = s .sound;
+          fits = omega (arith, s .less, a .fits);
+          rows = λ key k. lookup-row (compacted P n t .table .cells) P key ∙ s .rows (reverse (labels P key)) ∙ sym (lookup-row (t .cells) P key) ∙ a .rows key k;
+        }
+
+    -- A command whose identifier and number are allowed.
+    carried-together : (c : Command) → keyAllowed P c ≡ true → numberAllowed c ≡ true → Together P last (carriedOut P last t c) (heard P (told P last t c) es c)
+    unfolding keyAllowed numberAllowed carriedOut heard told
+    carried-together (insert key n) k row = rw (a .rows key k) (branch₂ (Together P last) (ltb 0 (rowIn es key))
+        (λ h. record { answer = refl; left = a })
+        (λ h. branch₂ (Together P last) (inserted P last t key n .fitted)
+        (λ f. record { answer = refl; left = inserted-agrees key n k row (omega (arith, a .rows key k, ltb-false 0 (rowIn es key) h)) f })
+        (λ f. record { answer = refl; left = a })))
+    carried-together (delete key) k row = rw (a .rows key k) (branch₂ (Together P last) (ltb 0 (rowIn es key))
+        (λ h. record { answer = refl; left = deleted-agrees key k (omega (arith, a .rows key k, ltb-true 0 (rowIn es key) h)) })
+        (λ h. record { answer = refl; left = a }))
+    carried-together (find key) k row = rw (a .rows key k) (branch₂ (Together P last) (ltb 0 (rowIn es key))
+        (λ h. record { answer = refl; left = a })
+        (λ h. record { answer = refl; left = a }))
+    carried-together (compact n) k row = record { answer = refl; left = compacted-agrees n }
+
+    pub answered-together : (c : Command) → Together P last (answered P last t true c) (replied P (told P last t c) es c)
+    unfolding answered replied
+    answered-together c = branch₂ (Together P last) (keyAllowed P c)
+        (λ k. branch₂ (Together P last) (numberAllowed c) (carried-together c k) (λ _. record { answer = refl; left = a }))
+        (λ _. record { answer = refl; left = a })
+
+  -- ---- any sequence
+
+  pub history-agrees : (cs : List Command) {t : Table} (es : List Entry) → Agrees P last t es → (history P last t es cs .answers ≡ history P last t es cs .replies) × Agrees P last (history P last t es cs .table) (history P last t es cs .list)
+  unfolding history
+  history-agrees [] es a = (refl, a)
+  history-agrees (c ∷ cs) {t} es a =
+      let s = answered-together es a c in
+      let (e, on) = history-agrees cs (replied P (told P last t c) es c .list) (s .left) in
+      (ap₂ _∷_ (s .answer) e, on)
+
+  -- Every sound table has its plain list: its own entries.
+  pub entries-agree : {t : Table} → Sound P t → t .size ≤ last → Agrees P last t (entries P (t .cells))
+  entries-agree {t} w fits = record {
+    sound = w;
+    fits = fits;
+    rows = λ key k. row-in (λ (n : ℕ). lookup P (t .cells) key ≡ n) (entries P (t .cells)) key
+        (λ e a f. ap (lookup P (t .cells)) (sym f) ∙ listed-live trip w e a .1)
+        (λ none. ⊎-elim (λ z. z) (λ h. absurd (none _ (live-listed trip w key h) refl)) (some? (lookup P (t .cells) key)));
+  }
+
+  -- From any sound table that the arrays hold, and any commands: the answers are the list's, and so is every lookup afterwards.
+  pub any-history : {t : Table} → Sound P t → t .size ≤ last → (cs : List Command) →
+      let h = history P last t (entries P (t .cells)) cs in
+      (h .answers ≡ h .replies) × Agrees P last (h .table) (h .list)
+  any-history {t} w fits cs = history-agrees cs (entries P (t .cells)) (entries-agree w fits)

@@ -1,0 +1,157 @@
+-- One cell more below a node, and a whole branch: the row stands at the new path, every other row as before. Assumes nothing.
+use mathlib.Core.Path.{_≡_, refl, sym, ap, _∙_}
+use mathlib.Core.Logic.{_≢_, inl, ⊎-elim}
+use mathlib.Core.Bool.{true}
+use mathlib.Core.List.{List, [], _∷_, reverseAux}
+use Prim.Native.Nat.{ℕ, _+_, _≤_, max}
+use native.Mathlib.Omega.{arith}
+use Rattle.rules.specs.WhatTheIndexDoes.{END, Profile, isRow}
+use Rattle.rules.specs.Table.{Content, Cells, Table, free, inner, leaf, update, used, node}
+use Rattle.rules.specs.Placement.{placed}
+use Rattle.rules.specs.Insertion.{grow}
+use Rattle.tree.specs.Soundness.{Step, Held, aLeaf, anInner, rowAt, Fruit, Sits, Tree}
+use Rattle.tree.proofs.Choices.{same?}
+use Rattle.tree.proofs.Steps.{step-next}
+use Rattle.tree.proofs.Trees.{unused-parent, past-unused, based-pos, one-path}
+use Rattle.tree.proofs.Placement.{placed-pos, placed-opens, opens-each}
+use Rattle.tree.proofs.OneCell.{update-at, update-off, OneMore, path-more, row-other, row-inner, fruit-more, tree-more}
+
+-- ---- one cell
+
+-- The content x can be put where the label c leads from s.
+pub record Puts (P : Profile) (T : Cells) (s c : ℕ) (x : Content) : Type 0 where
+  pub based : 1 ≤ T s .base
+  pub low : 1 ≤ c
+  pub high : c ≤ P .greatest
+  pub under : x .parent ≡ s
+  pub held : Held c x
+  pub clear : T (T s .base + c) .parent ≡ 0
+
+module _ {P : Profile} {T : Cells} {size : ℕ} (w : Tree P T size) {s c : ℕ} {x : Content} (a : Puts P T s c x) where
+  -- The cell, and the table with it.
+  abbrev pub put : ℕ
+  put = T s .base + c
+
+  abbrev pub Put : Cells
+  Put = update T put x
+
+  put-far : 2 ≤ put
+  put-far = omega (arith, a .based, a .low)
+
+  pub put-one : OneMore T Put put
+  put-one = record {
+    far = put-far;
+    same = update-off T put x;
+    gone = gone;
+    nowhere = w .nowhere;
+    alone = λ u e. ⊎-elim (λ f. own u f e) (other u e) (same? u put);
+  }
+    where
+      gone : T put ≡ free
+      gone = w .blank put (λ e. omega (arith, put-far)) (a .clear)
+
+      own : (u : ℕ) → u ≡ put → Put u .parent ≢ put
+      own u f e =
+          let v : s ≡ put = sym (a .under) ∙ sym (ap (λ y. y .parent) (update-at T put x)) ∙ ap (λ (z : ℕ). Put z .parent) (sym f) ∙ e in
+          omega (arith, a .based, ap (λ (z : ℕ). T z .base) v, ap (λ y. y .base) gone)
+
+      other : (u : ℕ) → Put u .parent ≡ put → u ≢ put → ⊥
+      other u e d =
+          let f : T u .parent ≡ put = sym (ap (λ y. y .parent) (update-off T put x u d)) ∙ e in
+          omega (arith, w .sits u (rw f (omega (arith, put-far))) .step .based, ap (λ (z : ℕ). T z .base) f, ap (λ y. y .base) gone)
+
+  s-off : s ≢ put
+  s-off e = put-one .alone put (ap (λ y. y .parent) (update-at T put x) ∙ a .under ∙ e)
+
+  put-step : Step Put s c put
+  put-step =
+      let e = update-off T put x s s-off in
+      record { based = rw e (a .based); at = rw e; back = ap (λ y. y .parent) (update-at T put x) ∙ a .under }
+
+  put-sits : Sits P Put put
+  put-sits = record { code = c; step = rw (put-step .back) put-step; low = a .low; high = a .high; held = rw (update-at T put x) (a .held) }
+
+  pub put-tree : Tree P Put (max size put)
+  put-tree = tree-more put-one (max size put) (omega arith) (omega arith) put-sits w
+
+  pub put-path : (path : List ℕ) → node T path ≡ s → node Put (c ∷ path) ≡ put
+  unfolding node
+  put-path path e = rw (path-more put-one path e (based-pos w s (a .based))) (step-next Put put-step)
+
+  pub put-fruit : Fruit T s → Fruit Put put
+  put-fruit = fruit-more put-one s c put-step
+
+  -- With a leaf put every inner cell has a child.
+  pub leaf-fruit : x .base ≡ 0 → Fruit T s → Fruit Put 0
+  leaf-fruit z f u d h k = put-fruit f u (λ e. omega (arith, ap (λ (y : ℕ). Put y .base) e, ap (λ y. y .base) (update-at T put x))) h k
+
+  pub put-inner : x .row ≡ 0 → (path : List ℕ) → rowAt Put path ≡ rowAt T path
+  put-inner z = row-inner put-one (rw (update-at T put x) z)
+
+  pub put-here : (path : List ℕ) → node T path ≡ s → rowAt Put (c ∷ path) ≡ x .row
+  put-here path e = ap (λ (u : ℕ). Put u .row) (put-path path e) ∙ ap (λ y. y .row) (update-at T put x)
+
+  pub put-other : (path : List ℕ) → node T path ≡ s → (r : List ℕ) → r ≢ c ∷ path → rowAt Put r ≡ rowAt T r
+  put-other path e r d = row-other put-one r (λ f. d (one-path put-tree r (c ∷ path) f (put-path path e) (omega (arith, put-far))))
+
+-- ---- a branch
+
+-- The labels from a node to a leaf: codes of characters, then the end mark.
+abbrev pub Word : Profile → ℕ → List ℕ → Type 0
+Word P c [] = c ≡ END
+Word P c (d ∷ cs) = (2 ≤ c) × (c ≤ P .greatest) × Word P d cs
+
+pub word-low : (P : Profile) (c : ℕ) (cs : List ℕ) → Word P c cs → 1 ≤ c
+word-low P c [] e = omega arith
+word-low P c (d ∷ cs) k = omega (arith, k .0)
+
+-- A cell's base does not matter to what is used.
+used-same : (T : Cells) (t : ℕ) (x y : Content) → x .parent ≡ y .parent → (u : ℕ) → update T t x u .parent ≡ update T t y u .parent
+used-same T t x y e u = ⊎-elim own (λ d. rw (update-off T t x u d, update-off T t y u d)) (same? u t)
+  where
+    own : u ≡ t → update T t x u .parent ≡ update T t y u .parent
+    own f = rw (f, update-at T t x, update-at T t y) e
+
+-- R is a tree with the row n at the path, and otherwise with the rows of T.
+pub record Meant (P : Profile) (T : Cells) (path : List ℕ) (n : ℕ) (R : Table) : Type 0 where
+  pub tree : Tree P (R .cells) (R .size)
+  pub here : rowAt (R .cells) path ≡ n
+  pub else : (r : List ℕ) → r ≢ path → rowAt (R .cells) r ≡ rowAt T r
+  pub fruit : Fruit (R .cells) 0
+
+pub grow-count : (last : ℕ) (T : Cells) (size s c : ℕ) (cs : List ℕ) (n : ℕ) → grow last T size s c cs n .count ≡ 0
+unfolding grow
+grow-count last T size s c [] n = refl
+grow-count last T size s c (d ∷ cs) n = refl
+
+-- It is T with a branch more: every node of T stands where it was.
+pub record Grown (P : Profile) (T : Cells) (path : List ℕ) (n : ℕ) (R : Table) : Type 0 where
+  pub meant : Meant P T path n R
+  pub stays : (r : List ℕ) → 1 ≤ node T r → node (R .cells) r ≡ node T r
+
+module _ {P : Profile} (some : 1 ≤ P .greatest) (last n : ℕ) (row : isRow n ≡ true) where
+  pub grow-grown : (cs : List ℕ) (c : ℕ) {T : Cells} {size s : ℕ} (path : List ℕ) → Tree P T size → Word P c cs → node T path ≡ s → 1 ≤ T s .base → T (T s .base + c) .parent ≡ 0 → Fruit T s → Grown P T (reverseAux (c ∷ cs) path) n (grow last T size s c cs n .table)
+  unfolding grow
+  grow-grown [] c {T} {size} {s} path w wd e based clear fruit =
+      let a : Puts P T s c (leaf s n) = record { based = based; low = omega arith; high = omega arith; under = refl; held = aLeaf wd refl row; clear = clear } in
+      record {
+        meant = record { tree = put-tree w a; here = put-here w a path e; else = put-other w a path e; fruit = leaf-fruit w a refl fruit };
+        stays = λ r h. path-more (put-one w a) r refl h;
+      }
+  grow-grown (d ∷ cs) c {T} {size} {s} path w wd e based clear fruit =
+      let t = T s .base + c in
+      let a : (b : ℕ) → 1 ≤ b → Puts P T s c (inner s b) = λ b h. record { based = based; low = omega (arith, wd .0); high = wd .1; under = refl; held = anInner (wd .0) h refl; clear = clear } in
+      let one = update T t (inner s 1) in
+      let past = past-unused (put-tree w (a 1 (omega arith))) in
+      let q = placed (used one) (max size t) (d ∷ []) in
+      let q-pos = placed-pos (used one) (max size t) past (d ∷ []) in
+      let q-clear = unused-parent one (q + d) (opens-each (used one) (d ∷ []) q d (placed-opens (used one) (max size t) past (d ∷ [])) (inl refl)) in
+      let f : update T t (inner s q) t .base ≡ q = ap (λ x. x .base) (update-at T t (inner s q)) in
+      let clear′ : update T t (inner s q) (update T t (inner s q) t .base + d) .parent ≡ 0 = rw f (used-same T t (inner s q) (inner s 1) refl (q + d) ∙ q-clear) in
+      let w′ = a q q-pos in
+      let g = grow-grown cs d (c ∷ path) (put-tree w w′) (wd .2) (put-path w w′ path e) (rw f q-pos) clear′ (put-fruit w w′ fruit) in
+      let m = g .meant in
+      record {
+        meant = record { tree = m .tree; here = m .here; fruit = m .fruit; else = λ r ne. m .else r ne ∙ put-inner w w′ refl r };
+        stays = λ r h. let k = path-more (put-one w w′) r refl h in g .stays r (rw k h) ∙ k;
+      }

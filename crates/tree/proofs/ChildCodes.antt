@@ -1,0 +1,70 @@
+-- The codes of a cell's children are those that lead on, and a cell is childless where none does. Assumes nothing.
+use mathlib.Core.Path.{_≡_, refl, ap}
+use mathlib.Core.Logic.{_≢_, inl, inr, ⊎-elim}
+use mathlib.Core.Bool.{true, false}
+use mathlib.Core.List.{List, [], _∷_}
+use Prim.Native.Nat.{ℕ, zero, suc, _≤_}
+use native.Mathlib.Omega.{arith}
+use lib.ListN.{length}
+use lib.Dec.{eqb}
+use borrow.Author.Tests.{eq-eqb, eqb-true, eqb-false}
+use Rattle.rules.specs.WhatTheIndexDoes.{Profile}
+use Rattle.rules.specs.Table.{Cells, next, childCodes, childless}
+use Rattle.tree.specs.Members.{Among}
+use Rattle.tree.specs.Soundness.{Step, Tree}
+use Rattle.tree.proofs.Choices.{same?, some?, branch}
+use Rattle.tree.proofs.Steps.{step-next, next-baseless}
+use Rattle.tree.proofs.Trees.{step-low, step-high, step-far}
+
+module _ (T : Cells) (s : ℕ) where
+  pub codes-lead : (k c : ℕ) → Among c (childCodes T s k) → (1 ≤ c) × (c ≤ k) × (1 ≤ next T s c)
+  unfolding childCodes
+  codes-lead zero c = λ m. absurd m
+  codes-lead (suc k) c = branch (λ cs. Among c cs → (1 ≤ c) × (c ≤ suc k) × (1 ≤ next T s c)) (eqb (next T s (suc k)) 0)
+      (λ e m. let (l, h, n) = codes-lead k c m in (l, omega arith, n))
+      (λ e. ⊎-elim
+      (λ f. let d : next T s (suc k) ≢ 0 = eqb-false _ _ e in (omega arith, omega arith, omega (arith, ap (next T s) f)))
+      (λ m. let (l, h, n) = codes-lead k c m in (l, omega arith, n)))
+
+  pub lead-codes : (k c : ℕ) → 1 ≤ c → c ≤ k → 1 ≤ next T s c → Among c (childCodes T s k)
+  unfolding childCodes
+  lead-codes zero c l h n = absurd (omega arith)
+  lead-codes (suc k) c l h n = branch (λ cs. Among c cs) (eqb (next T s (suc k)) 0)
+      (λ e. let z : next T s (suc k) ≡ 0 = eqb-true _ _ e in
+      let d : c ≢ suc k = (λ f. omega (arith, ap (next T s) f)) in lead-codes k c l (omega arith) n)
+      (λ e. ⊎-elim (λ f. inl f) (λ d. inr (lead-codes k c l (omega arith) n)) (same? c (suc k)))
+
+  -- A list with a member is not empty.
+  among-length : (cs : List ℕ) (c : ℕ) → Among c cs → 1 ≤ length cs
+  among-length [] c m = absurd m
+  among-length (d ∷ cs) c m = omega arith
+
+  pub childless-next : (k c : ℕ) → childless T s k ≡ true → 1 ≤ c → c ≤ k → next T s c ≡ 0
+  unfolding childless
+  childless-next k c e l h =
+      let z : length (childCodes T s k) ≡ 0 = eqb-true _ _ e in
+      ⊎-elim (λ n. n) (λ n. absurd (omega (arith, among-length (childCodes T s k) c (lead-codes k c l h n)))) (some? (next T s c))
+
+  pub childless-baseless : (k : ℕ) → T s .base ≡ 0 → childless T s k ≡ true
+  unfolding childless childCodes
+  childless-baseless zero z = refl
+  childless-baseless (suc k) z = rw (eq-eqb _ _ (next-baseless T s (suc k) z)) (childless-baseless k z)
+
+  some-member : (cs : List ℕ) → length cs ≢ 0 → (c : ℕ) × Among c cs
+  some-member [] d = absurd (d refl)
+  some-member (c ∷ cs) d = (c, inl refl)
+
+  pub child-next : (k : ℕ) → childless T s k ≡ false → (c : ℕ) × (1 ≤ next T s c)
+  unfolding childless
+  child-next k e = let (c, m) = some-member (childCodes T s k) (eqb-false _ _ e) in (c, codes-lead k c m .2)
+
+module _ {P : Profile} {T : Cells} {size : ℕ} (w : Tree P T size) where
+  pub step-among : {s c t : ℕ} → Step T s c t → Among c (childCodes T s (P .greatest))
+  step-among {s} {c} p = lead-codes T s (P .greatest) c (step-low w p) (step-high w p) (rw (step-next T p) (omega (arith, step-far w p)))
+
+  -- No cell has a childless one for its parent.
+  pub childless-alone : (s : ℕ) → childless T s (P .greatest) ≡ true → 1 ≤ s → (u : ℕ) → T u .parent ≢ s
+  childless-alone s e h u f =
+      let k = w .sits u (rw f h) in
+      let p : Step T s (k .code) u = rw f at (k .step) in
+      omega (arith, step-next T p, childless-next T s (P .greatest) (k .code) e (k .low) (k .high), step-far w p)

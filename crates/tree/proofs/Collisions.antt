@@ -1,0 +1,91 @@
+-- A node that collides: its children move to the placed base for their codes and the new one. The tree is kept, the new label's
+-- cell is then unused, and the children, and no other nodes, have changed cell. Assumes nothing.
+use mathlib.Core.Path.{_≡_, refl, sym, ap, _∙_}
+use mathlib.Core.Logic.{_≢_, inl, inr, ⊎-elim}
+use mathlib.Core.List.{List, [], _∷_}
+use Prim.Native.Nat.{ℕ, zero, suc, _+_, _≤_, max}
+use native.Mathlib.Omega.{arith}
+use lib.ListN.{length}
+use lib.Dec.{eqb}
+use Rattle.rules.specs.WhatTheIndexDoes.{Profile}
+use Rattle.rules.specs.Table.{Cells, used, next, node, childCodes}
+use Rattle.rules.specs.Placement.{greatestOf, placed}
+use Rattle.rules.specs.Insertion.{relocate}
+use Rattle.tree.specs.Members.{Among, Once}
+use Rattle.tree.specs.Moved.{Changed, Moved}
+use Rattle.tree.specs.Soundness.{Tree}
+use Rattle.tree.proofs.Choices.{same?, branch}
+use Rattle.tree.proofs.Steps.{step-next, next-step}
+use Rattle.tree.proofs.Trees.{last-step, one-path}
+use Rattle.tree.proofs.Placement.{greatest-least}
+use Rattle.tree.proofs.ChildCodes.{codes-lead, step-among}
+use Rattle.tree.proofs.Relocation.{Fit, ρ, s-pos, child-changes, to-other, to-pos, node-moved, s-moved, clear-moved}
+use Rattle.tree.proofs.RelocatedTree.{tree-moved}
+use Rattle.tree.proofs.PlacedChildren.{placed-clear, child-among, placed-fit}
+
+codes-once : (T : Cells) (s k : ℕ) → Once (childCodes T s k)
+unfolding childCodes
+codes-once T s zero = tt
+codes-once T s (suc k) = branch (λ (cs : List ℕ). Once cs) (eqb (next T s (suc k)) 0)
+    (λ e. codes-once T s k)
+    (λ e. (λ a. absurd (omega (arith, codes-lead T s k (suc k) a .1)), codes-once T s k))
+
+module _ {P : Profile} {T : Cells} {size : ℕ} (w : Tree P T size) (s c : ℕ) (based : 1 ≤ T s .base) where
+  -- The codes of the children, and the base to which they move.
+  abbrev pub codes : List ℕ
+  codes = childCodes T s (P .greatest)
+
+  abbrev pub base′ : ℕ
+  base′ = placed (used T) size (c ∷ codes)
+
+  pub collide-fit : Fit T s (T s .base) base′
+  collide-fit = placed-fit w s based (c ∷ codes) (λ d a. inr a)
+
+  pub collide-tree : Tree P (relocate T s base′) (max size (base′ + greatestOf (c ∷ codes)))
+  unfolding relocate
+  collide-tree = tree-moved w collide-fit (max size (base′ + greatestOf (c ∷ codes))) (omega arith) (λ d k.
+      omega (arith, greatest-least (c ∷ codes) d (child-among w s based (c ∷ codes) (λ d a. inr a) d k)))
+
+  pub collide-base : relocate T s base′ s .base ≡ base′
+  unfolding relocate
+  collide-base = s-moved w collide-fit
+
+  pub collide-clear : next T s c ≡ 0 → relocate T s base′ (relocate T s base′ s .base + c) .parent ≡ 0
+  unfolding relocate
+  collide-clear none = rw (s-moved w collide-fit) (clear-moved w collide-fit c nowhere (placed-clear w s based (c ∷ codes) (λ d a. inr a) c (inl refl)))
+    where
+      nowhere : T (T s .base + c) .parent ≢ s
+      nowhere k = omega (arith, none, step-next T {s = s} {c = c} (record { based = based; at = refl; back = k }))
+
+  -- R is the table after the move, or one in which every node of it stands where it then was.
+  module _ (R : Cells) (stays : (r : List ℕ) → 1 ≤ node (relocate T s base′) r → node R r ≡ node (relocate T s base′) r) (path : List ℕ) (e : node T path ≡ s) where
+    node-now : (r : List ℕ) → 1 ≤ node T r → node R r ≡ ρ w collide-fit (node T r)
+    unfolding relocate
+    node-now r h =
+        let k = node-moved w collide-fit r in
+        stays r (rw k (to-pos w collide-fit (node T r) h)) ∙ k
+
+    changed : (r : List ℕ) → 1 ≤ node T r → T (node T r) .parent ≡ s → Changed T R r
+    changed r h k = record { was = h; now = λ f. child-changes w collide-fit (node T r) k (sym (node-now r h) ∙ f) }
+
+    is-child : (r : List ℕ) → Changed T R r → T (node T r) .parent ≡ s
+    is-child r k = ⊎-elim (λ f. f) (λ d. absurd (k .now (node-now r (k .was) ∙ to-other w collide-fit (node T r) d))) (same? (T (node T r) .parent) s)
+
+    child-path : (r : List ℕ) → Changed T R r → (d : ℕ) × Among d codes × (r ≡ d ∷ path)
+    unfolding node
+    child-path [] k = absurd (omega (arith, is-child [] k, w .root-parent, s-pos w collide-fit))
+    child-path (d ∷ r) k =
+        let p = last-step w d r refl (k .was) in
+        let f : node T r ≡ s = sym (p .back) ∙ is-child (d ∷ r) k in
+        (d, step-among w (rw f at p), ap (_∷_ d) (one-path w r path f e (s-pos w collide-fit)))
+
+    pub collide-moved : Moved T R (length codes)
+    unfolding node
+    collide-moved = record {
+      parent = path;
+      codes = codes;
+      once = codes-once T s (P .greatest);
+      many = refl;
+      each = λ d a. let p = next-step T (codes-lead T s (P .greatest) d a .2) in changed (d ∷ path) (rw e (codes-lead T s (P .greatest) d a .2)) (rw e (p .back));
+      all = child-path;
+    }

@@ -1,0 +1,118 @@
+-- Compaction keeps a sound table sound and every row where it was, and leaves no size past the largest used cell. Assumes nothing.
+use mathlib.Core.Path.{_≡_, refl, sym, _∙_}
+use mathlib.Core.Bool.{_&&_}
+use mathlib.Core.List.{List}
+use Prim.Native.Nat.{ℕ, zero, suc, _+_, _≤_, _<_}
+use native.Mathlib.Omega.{arith}
+use lib.Dec.{ltb, eqb}
+use borrow.Author.Tests.{ltb-true}
+use Rattle.rules.specs.WhatTheIndexDoes.{Profile}
+use Rattle.rules.specs.Table.{Table, used, largestUsed, next, childCodes}
+use Rattle.rules.specs.Placement.{placed}
+use Rattle.rules.specs.Insertion.{relocate}
+use Rattle.rules.specs.DeletionAndCompaction.{Moves, trimmed, compactionStep, compactionSteps, compacted}
+use Rattle.rules.proofs.Ranges.{both}
+use Rattle.tree.specs.Soundness.{rowAt, Sound}
+use Rattle.tree.proofs.Choices.{branch}
+use Rattle.tree.proofs.Steps.{step-next}
+use Rattle.tree.proofs.Relocation.{s-pos, row-moved}
+use Rattle.tree.proofs.RelocatedTree.{tree-moved, sound-moved}
+use Rattle.tree.proofs.PlacedChildren.{placed-fit}
+use Rattle.tree.proofs.LargestUsed.{largest-low, largest-parent, largest-again, trimmed-tree}
+
+-- t′ is sound, means what t means, and is no larger.
+pub record Same (P : Profile) (t t′ : Table) : Type 0 where
+  pub sound : Sound P t′
+  pub rows : (path : List ℕ) → rowAt (t′ .cells) path ≡ rowAt (t .cells) path
+  pub less : t′ .size ≤ t .size
+
+-- The size is the largest used cell.
+abbrev pub Trimmed : Table → Type 0
+Trimmed t = t .size ≡ largestUsed (t .cells) (t .size)
+
+-- ---- the two cases of a step
+
+module _ (P : Profile) (t : Table) where
+  -- The largest used cell, its parent, and the placed base for that parent's children.
+  abbrev pub top : ℕ
+  top = largestUsed (t .cells) (t .size)
+
+  abbrev pub owner : ℕ
+  owner = t .cells top .parent
+
+  abbrev pub target : ℕ
+  target = placed (used (t .cells)) (t .size) (childCodes (t .cells) owner (P .greatest))
+
+  abbrev pub move : Moves
+  move = record { table = trimmed (relocate (t .cells) owner target) (t .size); count = 1 }
+
+  abbrev pub stay : Moves
+  stay = record { table = trimmed (t .cells) (t .size); count = 0 }
+
+  pub step-cases : (F : Moves → Type 0) → (1 < top → target < t .cells owner .base → F move) → F stay → F (compactionStep P t)
+  unfolding compactionStep
+  step-cases F f g = branch F (ltb 1 top && ltb target (t .cells owner .base))
+      (λ e. let (h, k) = both _ _ e in f (ltb-true _ _ h) (ltb-true _ _ k)) (λ e. g)
+
+  pub step-trims : Trimmed (compactionStep P t .table)
+  unfolding trimmed
+  step-trims = step-cases (λ m. Trimmed (m .table)) (λ h k. sym (largest-again _ (t .size))) (sym (largest-again _ (t .size)))
+
+-- ---- a step
+
+module _ {P : Profile} where
+  same-again : {t t′ t″ : Table} → Same P t t′ → Same P t′ t″ → Same P t t″
+  same-again a b = record { sound = b .sound; rows = λ r. b .rows r ∙ a .rows r; less = omega (arith, a .less, b .less) }
+
+  same-self : {t : Table} → Sound P t → Same P t t
+  same-self w = record { sound = w; rows = λ r. refl; less = omega arith }
+
+  trim-same : {t t′ : Table} → Same P t t′ → Same P t (trimmed (t′ .cells) (t′ .size))
+  unfolding trimmed
+  trim-same {t} {t′} a =
+      let w = a .sound in
+      record {
+        sound = record { tree = trimmed-tree (w .tree); fruit = w .fruit; bare = w .bare; deep = w .deep };
+        rows = a .rows;
+        less = omega (arith, largest-low (t′ .cells) (t′ .size) (w .tree .some), a .less);
+      }
+
+  move-same : {t : Table} → Sound P t → 1 < top P t → target P t < t .cells (owner P t) .base →
+      Same P t (record { cells = relocate (t .cells) (owner P t) (target P t); size = t .size })
+  unfolding relocate
+  move-same {t} w h lower =
+      let k = w .tree .sits (top P t) (largest-parent (t .cells) (t .size) h) in
+      let m = placed-fit (w .tree) (owner P t) (k .step .based) (childCodes (t .cells) (owner P t) (P .greatest)) (λ c a. a) in
+      let v = tree-moved (w .tree) m (t .size) (omega arith) (λ c e. omega (arith, w .tree .inside (t .cells (owner P t) .base + c) (rw e (s-pos (w .tree) m)))) in
+      let n : 1 ≤ next (t .cells) (owner P t) (k .code) = rw (step-next (t .cells) (k .step)) (omega arith) in
+      record { sound = sound-moved (w .tree) m (w .fruit) (w .deep) (k .code) n (t .size) v; rows = row-moved (w .tree) m; less = omega arith }
+
+  pub step-same : {t : Table} → Sound P t → Same P t (compactionStep P t .table)
+  step-same {t} w = step-cases P t (λ m. Same P t (m .table)) (λ h k. trim-same (move-same w h k)) (trim-same (same-self w))
+
+  -- ---- many steps
+
+  pub steps-same : (n : ℕ) {t : Table} → Sound P t → Same P t (compactionSteps P n t .table)
+  unfolding compactionSteps
+  steps-same zero w = same-self w
+  steps-same (suc n) {t} w =
+      let a = step-same w in
+      branch (λ (m : Moves). Same P t (m .table)) (eqb (compactionStep P t .count) 0) (λ e. a) (λ e. same-again a (steps-same n (a .sound)))
+
+  pub compacted-same : (n : ℕ) {t : Table} → Sound P t → Same P t (compacted P n t .table)
+  unfolding compacted
+  compacted-same n w = let a = trim-same (same-self w) in same-again a (steps-same n (a .sound))
+
+-- ---- the size
+
+module _ (P : Profile) where
+  steps-trims : (n : ℕ) (t : Table) → Trimmed t → Trimmed (compactionSteps P n t .table)
+  unfolding compactionSteps
+  steps-trims zero t e = e
+  steps-trims (suc n) t e =
+      let a = step-trims P t in
+      branch (λ (m : Moves). Trimmed (m .table)) (eqb (compactionStep P t .count) 0) (λ _. a) (λ _. steps-trims n _ a)
+
+  pub compacted-trims : (n : ℕ) (t : Table) → Trimmed (compacted P n t .table)
+  unfolding compacted trimmed
+  compacted-trims n t = steps-trims n _ (sym (largest-again (t .cells) (t .size)))

@@ -1,0 +1,38 @@
+-- The laws, in the order of what they show.
+-- Choices by a test, and ranges.
+pub mod Choices
+pub mod Ranges
+-- Steps, walks and paths.
+pub mod Steps
+pub mod Trees
+-- Placement.
+pub mod Placement
+pub mod ChildCodes
+pub mod PlacedChildren
+-- Relocation.
+pub mod Relocation
+pub mod RelocatedTree
+pub mod MovingInTurn
+pub mod ThereAndBack
+-- Insertion.
+pub mod OneCell
+pub mod Branches
+pub mod Collisions
+pub mod Courses
+pub mod Room
+pub mod Identifiers
+pub mod OneIdentifier
+pub mod Insertion
+pub mod NoRoom
+-- Deletion and compaction.
+pub mod Pruning
+pub mod LargestUsed
+pub mod Compaction
+pub mod StepsTaken
+pub mod Deletion
+-- The listing.
+pub mod Listing
+-- Demand 2.
+pub mod EmptyTable
+pub mod PlainList
+pub mod AnyHistory

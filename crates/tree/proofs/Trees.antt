@@ -1,0 +1,180 @@
+-- What holds in every tree: steps lead to used cells by a code, no cell is its own parent, and each cell has one path. Assumes
+-- nothing.
+use mathlib.Core.Path.{_≡_, refl, sym, ap, ap₂, _∙_, subst}
+use mathlib.Core.Logic.{_≢_, _⊎_, inl, inr, ⊎-elim}
+use mathlib.Core.Bool.{Bool, true, false, _||_, true≢false}
+use mathlib.Core.List.{List, [], _∷_, reverseAux}
+use Prim.Native.Nat.{ℕ, _≤_, _<_}
+use native.Mathlib.Omega.{arith}
+use borrow.Author.Tests.{lt-ltb, ne-eqb, leb-true}
+use lib.ListN.{length, length-reverseAux}
+use lib.Dec.{eqb}
+use Rattle.rules.specs.Ranges.{within}
+use Rattle.rules.specs.WhatTheIndexDoes.{Profile, isRow}
+use Rattle.rules.specs.Table.{Content, Cells, free, used, next, walk, node}
+use Rattle.rules.proofs.Ranges.{both}
+use Rattle.tree.specs.Soundness.{Step, Held, aLeaf, anInner, Fruit, Bare, Tree}
+use Rattle.tree.proofs.Choices.{same?, some?}
+use Rattle.tree.proofs.Steps.{parent-cell, base-cell, step-next, next-step, walk-node}
+
+or-true : (b : Bool) → (b || true) ≡ true
+or-true true = refl
+or-true false = refl
+
+-- ---- what a cell holds
+
+pub row-low : {n : ℕ} → isRow n ≡ true → 1 ≤ n
+unfolding isRow within
+row-low {n} e = leb-true 1 n (both _ _ e .0)
+
+module _ {c : ℕ} {x : Content} where
+  pub held-inner : Held c x → 1 ≤ x .base → x .row ≡ 0
+  held-inner (aLeaf e z r) h = absurd (omega arith)
+  held-inner (anInner l b z) h = z
+
+  pub held-leaf : Held c x → 1 ≤ x .row → (c ≡ 1) × (x .base ≡ 0) × (isRow (x .row) ≡ true)
+  held-leaf (aLeaf e z r) h = (e, z, r)
+  held-leaf (anInner l b z) h = absurd (omega arith)
+
+  pub held-onward : Held c x → 2 ≤ c → 1 ≤ x .base
+  held-onward (aLeaf e z r) h = absurd (omega arith)
+  held-onward (anInner l b z) h = b
+
+  pub held-code : Held c x → 1 ≤ x .base → 2 ≤ c
+  held-code (aLeaf e z r) h = absurd (omega arith)
+  held-code (anInner l b z) h = l
+
+  pub held-end : Held c x → c ≡ 1 → 1 ≤ x .row
+  held-end (aLeaf e z r) h = row-low r
+  held-end (anInner l b z) h = absurd (omega arith)
+
+-- ---- used cells
+
+module _ (T : Cells) (t : ℕ) where
+  pub parent-used : 1 ≤ T t .parent → used T t ≡ true
+  unfolding used
+  parent-used h = rw (lt-ltb _ _ h) (or-true (eqb t 1))
+
+  pub unused-parent : used T t ≡ false → T t .parent ≡ 0
+  unfolding used
+  unused-parent e = ⊎-elim (λ z. z) (λ h. absurd (true≢false (sym (parent-used h) ∙ e))) (some? (T t .parent))
+
+  pub parent-unused : t ≢ 1 → T t .parent ≡ 0 → used T t ≡ false
+  unfolding used
+  parent-unused d z = rw (ne-eqb _ _ d, z)
+
+module _ {P : Profile} {T : Cells} {size : ℕ} (w : Tree P T size) where
+  -- ---- cells
+
+  -- Past the size every cell is unused.
+  pub past-unused : (t : ℕ) → size < t → used T t ≡ false
+  past-unused t h =
+      let z : T t .parent ≡ 0 = ⊎-elim (λ z. z) (λ u. absurd (omega (arith, w .inside t u))) (some? (T t .parent)) in
+      parent-unused T t (λ e. omega (arith, w .some)) z
+
+  pub zero-parent : T 0 .parent ≡ 0
+  zero-parent = ap (λ x. x .parent) (w .nowhere)
+
+  pub used-pos : (t : ℕ) → 1 ≤ T t .parent → 1 ≤ t
+  used-pos = parent-cell T (w .nowhere)
+
+  pub based-pos : (s : ℕ) → 1 ≤ T s .base → 1 ≤ s
+  based-pos = base-cell T (w .nowhere)
+
+  -- A cell that holds something is the root or is used.
+  pub held-used : (t : ℕ) → t ≢ 1 → T t ≢ free → 1 ≤ T t .parent
+  held-used t d f = ⊎-elim (λ z. absurd (f (w .blank t d z))) (λ h. h) (some? (T t .parent))
+
+  pub live : (s : ℕ) → 1 ≤ T s .base → (s ≡ 1) ⊎ (1 ≤ T s .parent)
+  live s h = ⊎-elim inl (λ d. inr (held-used s d (λ e. omega (arith, ap (λ x. x .base) e)))) (same? s 1)
+
+  pub row-used : (t : ℕ) → 1 ≤ T t .row → 1 ≤ T t .parent
+  row-used t h = held-used t (λ e. omega (arith, w .root-row, ap (λ (x : ℕ). T x .row) e)) (λ e. omega (arith, ap (λ x. x .row) e))
+
+  pub row-pos : (t : ℕ) → 1 ≤ T t .row → 1 ≤ t
+  row-pos t h = used-pos t (row-used t h)
+
+  -- An inner cell has no row.
+  pub based-row : (s : ℕ) → 1 ≤ T s .base → T s .row ≡ 0
+  based-row s h = ⊎-elim (λ e. rw e (w .root-row)) (λ u. held-inner (w .sits s u .held) h) (live s h)
+
+  -- ---- steps
+
+  pub step-used : {s c t : ℕ} → Step T s c t → 1 ≤ T t .parent
+  step-used {s} p = omega (arith, p .back, based-pos s (p .based))
+
+  -- The code by which a cell sits is the only one that leads to it.
+  step-sits : {s c t : ℕ} (p : Step T s c t) → w .sits t (step-used p) .code ≡ c
+  step-sits {s} {c} {t} p = omega (arith, p .at, w .sits t (step-used p) .step .at, ap (λ (x : ℕ). T x .base) (p .back))
+
+  pub step-low : {s c t : ℕ} → Step T s c t → 1 ≤ c
+  step-low p = rw (step-sits p) at (w .sits _ (step-used p) .low)
+
+  pub step-high : {s c t : ℕ} → Step T s c t → c ≤ P .greatest
+  step-high p = rw (step-sits p) at (w .sits _ (step-used p) .high)
+
+  pub step-held : {s c t : ℕ} → Step T s c t → Held c (T t)
+  step-held {t = t} p = subst (λ k. Held k (T t)) (step-sits p) (w .sits _ (step-used p) .held)
+
+  pub step-far : {s c t : ℕ} → Step T s c t → 2 ≤ t
+  step-far p = omega (arith, p .based, p .at, step-low p)
+
+  -- ---- paths
+
+  -- The last step of a path.
+  pub last-step : (c : ℕ) (path : List ℕ) {t : ℕ} → node T (c ∷ path) ≡ t → 1 ≤ t → Step T (node T path) c t
+  unfolding node
+  last-step c path e h = rw e at (next-step T {s = node T path} {c = c} (rw e h))
+
+  pub no-loop : (path : List ℕ) {t : ℕ} → node T path ≡ t → 1 ≤ t → T t .parent ≢ t
+  unfolding node
+  no-loop [] e h u = omega (arith, w .root-parent, rw (← e) at u)
+  no-loop (c ∷ path) e h u = no-loop path (sym (last-step c path e h .back) ∙ u) h u
+
+  -- A cell has one path only.
+  pub one-path : (r r′ : List ℕ) {t : ℕ} → node T r ≡ t → node T r′ ≡ t → 1 ≤ t → r ≡ r′
+  unfolding node
+  one-path [] [] e e′ h = refl
+  one-path [] (c ∷ r) e e′ h = absurd (omega (arith, step-far (last-step c r e′ h)))
+  one-path (c ∷ r) [] e e′ h = absurd (omega (arith, step-far (last-step c r e h)))
+  one-path (c ∷ r) (c′ ∷ r′) e e′ h =
+      let p = last-step c r e h in
+      let p′ = last-step c′ r′ e′ h in
+      let f = one-path r r′ {t = node T r} refl (sym (p′ .back) ∙ p .back) (based-pos (node T r) (p .based)) in
+      let k : c ≡ c′ = omega (arith, p .at, p′ .at, ap (λ x. T (node T x) .base) f) in
+      ap₂ _∷_ k f
+
+  -- No labels lead from a cell back to it.
+  pub no-ring : (cs path : List ℕ) {t : ℕ} → node T path ≡ t → 1 ≤ t → walk T t cs ≡ t → cs ≡ []
+  no-ring [] path e h k = refl
+  no-ring (c ∷ cs) path e h k =
+      let f : node T (reverseAux (c ∷ cs) path) ≡ _ = sym (walk-node T (c ∷ cs) path) ∙ ap (λ (x : ℕ). walk T x (c ∷ cs)) e ∙ k in
+      absurd (omega (arith, length-reverseAux (c ∷ cs) path, ap (λ (r : List ℕ). length r) (one-path (reverseAux (c ∷ cs) path) path f e h)))
+
+  -- An inner cell has a path, the root's being the empty one.
+  pub path-of : (s : ℕ) → 1 ≤ T s .base → (path : List ℕ) × (node T path ≡ s)
+  unfolding node
+  path-of s h = ⊎-elim (λ e. ([], sym e)) (w .reach s) (live s h)
+
+  -- ---- children
+
+  pub fruit-weak : (x : ℕ) → Fruit T 0 → Fruit T x
+  fruit-weak x f u d h k = f u (λ e. omega (arith, used-pos u h)) h k
+
+  -- x has a child after all.
+  pub fruit-whole : (x c : ℕ) → 1 ≤ next T x c → Fruit T x → Fruit T 0
+  fruit-whole x c n f u d h k = ⊎-elim (λ e. (c, rw e n)) (λ e. f u e h k) (same? u x)
+
+  -- Where a path leads on from the root, the root has a child.
+  first-step : (path : List ℕ) (c : ℕ) → 1 ≤ node T (c ∷ path) → (a : ℕ) × (1 ≤ next T 1 a)
+  unfolding node
+  first-step [] c h = (c, h)
+  first-step (d ∷ path) c h = first-step path d (based-pos (node T (d ∷ path)) (next-step T h .based))
+
+  pub bare-path : (path : List ℕ) (c : ℕ) → 1 ≤ node T (c ∷ path) → Bare T
+  bare-path path c h none = let (a, k) = first-step path c h in absurd (omega (arith, none a, k))
+
+  -- Where a label leads on, the root has a child.
+  pub bare-step : {s c t : ℕ} → Step T s c t → Bare T
+  unfolding node
+  bare-step {s} {c} p = let (path, e) = path-of s (p .based) in bare-path path c (rw (e, step-next T p) (omega (arith, step-far p)))

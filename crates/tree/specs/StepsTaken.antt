@@ -1,0 +1,27 @@
+-- What compaction does, step by step.
+use mathlib.Core.Path.{_≡_}
+use Prim.Native.Nat.{ℕ, zero, suc, _≤_, _<_}
+use Rattle.rules.specs.WhatTheIndexDoes.{Profile}
+use Rattle.rules.specs.Table.{Table}
+use Rattle.rules.specs.Insertion.{relocate}
+use Rattle.rules.specs.DeletionAndCompaction.{Moves, compactionStep}
+
+-- The table after k steps, whether they move something or not.
+unfoldable pub after : Profile → ℕ → Table → Table
+after P zero t = t
+after P (suc k) t = after P k (compactionStep P t .table)
+
+-- A step that moves: the children of a cell go to a smaller base, and the size falls to the largest used cell.
+pub record Lowers (P : Profile) (t : Table) : Type 0 where
+  pub cell : ℕ
+  pub base : ℕ
+  pub lower : base < t .cells cell .base
+  pub is : compactionStep P t .table .cells ≡ relocate (t .cells) cell base
+
+-- What n steps at most come to: `moves.count` of them move, one after another; if that is fewer than n, the next moves nothing.
+pub record Taken (P : Profile) (n : ℕ) (t : Table) (moves : Moves) : Type 0 where
+  pub most : moves .count ≤ n
+  pub each : (i : ℕ) → i < moves .count → compactionStep P (after P i t) .count ≡ 1
+  pub full : moves .count ≡ n → moves .table ≡ after P n t
+  pub stopped : moves .count < n → compactionStep P (after P (moves .count) t) .count ≡ 0
+  pub early : moves .count < n → moves .table ≡ after P (suc (moves .count)) t
