@@ -3,12 +3,12 @@
 use mathlib.Core.Path.{_≡_, refl, sym, ap, ap₂, _∙_}
 use mathlib.Core.Logic.{_≢_, ⊎-elim}
 use mathlib.Core.Bool.{true}
-use mathlib.Core.List.{List, [], _∷_, reverse}
+use mathlib.Core.List.{List, [], _∷_}
 use Prim.Native.Nat.{ℕ, _≤_}
 use native.Mathlib.Omega.{arith}
 use lib.Dec.{ltb}
 use borrow.Author.Tests.{ltb-true, ltb-false, leb-true}
-use Rattle.rules.specs.WhatTheIndexDoes.{Profile, RoundTrip, isIdentifier, labels, isRow}
+use Rattle.rules.specs.WhatTheIndexDoes.{Profile, RoundTrip, isIdentifier, isRow}
 use Rattle.rules.specs.Table.{Table, lookup}
 use Rattle.rules.specs.Insertion.{inserted}
 use Rattle.rules.specs.DeletionAndCompaction.{deleted, compacted}
@@ -17,8 +17,7 @@ use Rattle.rules.specs.Commands.{Command, insert, delete, find, compact, Outcom
 use Rattle.tree.specs.Soundness.{Sound}
 use Rattle.tree.specs.ThePlainList.{rowIn, without, told, Reply, heard, replied, history}
 use Rattle.tree.proofs.Choices.{some?, branch₂}
-use Rattle.tree.proofs.Steps.{lookup-row}
-use Rattle.tree.proofs.Compaction.{compacted-same}
+use Rattle.tree.proofs.Compaction.{same-lookup, compacted-same}
 use Rattle.tree.proofs.Listing.{listed-live, live-listed}
 use Rattle.tree.proofs.OneIdentifier.{Now, same-list?}
 use Rattle.tree.proofs.Insertion.{inserted-now, inserted-honest}
@@ -42,7 +41,8 @@ module _ {P : Profile} (trip : RoundTrip P) (last : ℕ) where
   -- The table and the list at an identifier and at every other.
   now-agrees : {t t′ : Table} (es es′ : List Entry) (key : List ℕ) (n : ℕ) → Agrees P last t es → Now P t key n t′ → t′ .size ≤ last →
       rowIn es′ key ≡ n → ((j : List ℕ) → j ≢ key → rowIn es′ j ≡ rowIn es j) → Agrees P last t′ es′
-  now-agrees {t} {t′} es es′ key n a now fits here else = record { sound = now .sound; fits = fits; rows = λ j k. ⊎-elim (own j) (other j k) (same-list? j key) }
+  now-agrees {t} {t′} es es′ key n a now fits here else =
+      record { sound = now .sound; fits = fits; rows = λ j k. ⊎-elim (own j) (other j k) (same-list? j key) }
     where
       own : (j : List ℕ) → j ≡ key → lookup P (t′ .cells) j ≡ rowIn es′ j
       own j e = rw e (now .here ∙ sym here)
@@ -51,16 +51,19 @@ module _ {P : Profile} (trip : RoundTrip P) (last : ℕ) where
       other j k d = now .else j k d ∙ a .rows j k ∙ sym (else j d)
 
   module _ {t : Table} (es : List Entry) (a : Agrees P last t es) where
-    inserted-agrees : (key : List ℕ) (n : ℕ) → isIdentifier P key ≡ true → isRow n ≡ true → lookup P (t .cells) key ≡ 0 → inserted P last t key n .fitted ≡ true → Agrees P last (inserted P last t key n .table) (record { key = key; row = n } ∷ es)
+    inserted-agrees : (key : List ℕ) (n : ℕ) → isIdentifier P key ≡ true → isRow n ≡ true → lookup P (t .cells) key ≡ 0 →
+        inserted P last t key n .fitted ≡ true → Agrees P last (inserted P last t key n .table) (record { key = key; row = n } ∷ es)
     inserted-agrees key n k row absent fitted =
         let e : Entry = record { key = key; row = n } in
         let room = leb-true _ _ (sym (inserted-honest trip last (a .sound) key n k (a .fits)) ∙ fitted) in
         now-agrees es (e ∷ es) key n a (inserted-now trip last (a .sound) key n k row absent) room (put-own e es) (put-else e es)
 
-    deleted-agrees : (key : List ℕ) → isIdentifier P key ≡ true → 1 ≤ lookup P (t .cells) key → Agrees P last (deleted P t key) (without es key)
+    deleted-agrees : (key : List ℕ) → isIdentifier P key ≡ true → 1 ≤ lookup P (t .cells) key →
+        Agrees P last (deleted P t key) (without es key)
     deleted-agrees key k live =
-        let less = deleted-less (a .sound) key live in
-        now-agrees es (without es key) key 0 a (deleted-now (a .sound) key live trip k) (omega (arith, a .fits)) (without-own es key) (without-else es key)
+        let fits : deleted P t key .size ≤ last = omega (arith, a .fits, deleted-less (a .sound) key live) in
+        let now = deleted-now (a .sound) key live trip k in
+        now-agrees es (without es key) key 0 a now fits (without-own es key) (without-else es key)
 
     compacted-agrees : (n : ℕ) → Agrees P last (compacted P n t .table) es
     compacted-agrees n =
@@ -68,11 +71,12 @@ module _ {P : Profile} (trip : RoundTrip P) (last : ℕ) where
         record {
           sound = s .sound;
           fits = omega (arith, s .less, a .fits);
-          rows = λ key k. lookup-row (compacted P n t .table .cells) P key ∙ s .rows (reverse (labels P key)) ∙ sym (lookup-row (t .cells) P key) ∙ a .rows key k;
+          rows = λ key k. same-lookup s key ∙ a .rows key k;
         }
 
     -- A command whose identifier and number are allowed.
-    carried-together : (c : Command) → keyAllowed P c ≡ true → numberAllowed c ≡ true → Together P last (carriedOut P last t c) (heard P (told P last t c) es c)
+    carried-together : (c : Command) → keyAllowed P c ≡ true → numberAllowed c ≡ true →
+        Together P last (carriedOut P last t c) (heard P (told P last t c) es c)
     unfolding keyAllowed numberAllowed carriedOut heard told
     carried-together (insert key n) k row = rw (a .rows key k) (branch₂ (Together P last) (ltb 0 (rowIn es key))
         (λ h. record { answer = refl; left = a })
@@ -95,7 +99,9 @@ module _ {P : Profile} (trip : RoundTrip P) (last : ℕ) where
 
   -- ---- any sequence
 
-  pub history-agrees : (cs : List Command) {t : Table} (es : List Entry) → Agrees P last t es → (history P last t es cs .answers ≡ history P last t es cs .replies) × Agrees P last (history P last t es cs .table) (history P last t es cs .list)
+  pub history-agrees : (cs : List Command) {t : Table} (es : List Entry) → Agrees P last t es →
+      let h = history P last t es cs in
+      (h .answers ≡ h .replies) × Agrees P last (h .table) (h .list)
   unfolding history
   history-agrees [] es a = (refl, a)
   history-agrees (c ∷ cs) {t} es a =

@@ -1,7 +1,7 @@
 -- One cell more below a node, and a whole branch: the row stands at the new path, every other row as before. Assumes nothing.
 use mathlib.Core.Path.{_≡_, refl, sym, ap, _∙_}
 use mathlib.Core.Logic.{_≢_, inl, ⊎-elim}
-use mathlib.Core.Bool.{true}
+use mathlib.Core.Bool.{true, false}
 use mathlib.Core.List.{List, [], _∷_, reverseAux}
 use Prim.Native.Nat.{ℕ, _+_, _≤_, max}
 use native.Mathlib.Omega.{arith}
@@ -11,21 +11,26 @@ use Rattle.rules.specs.Placement.{placed}
 use Rattle.rules.specs.Insertion.{grow}
 use Rattle.tree.specs.Soundness.{Step, Held, aLeaf, anInner, rowAt, Fruit, Sits, Tree}
 use Rattle.tree.proofs.Choices.{same?}
+use Rattle.tree.proofs.UsedCells.{unused-parent}
 use Rattle.tree.proofs.Steps.{step-next}
-use Rattle.tree.proofs.Trees.{unused-parent, past-unused, based-pos, one-path}
+use Rattle.tree.proofs.Trees.{past-unused, based-pos, one-path}
 use Rattle.tree.proofs.Placement.{placed-pos, placed-opens, opens-each}
 use Rattle.tree.proofs.OneCell.{update-at, update-off, OneMore, path-more, row-other, row-inner, fruit-more, tree-more}
 
 -- ---- one cell
 
--- The content x can be put where the label c leads from s.
-pub record Puts (P : Profile) (T : Cells) (s c : ℕ) (x : Content) : Type 0 where
+-- The code c leads from s to an unused cell.
+pub record Place (P : Profile) (T : Cells) (s c : ℕ) : Type 0 where
   pub based : 1 ≤ T s .base
   pub low : 1 ≤ c
   pub high : c ≤ P .greatest
+  pub clear : T (T s .base + c) .parent ≡ 0
+
+-- The content x can be put there.
+pub record Puts (P : Profile) (T : Cells) (s c : ℕ) (x : Content) : Type 0 where
+  pub place : Place P T s c
   pub under : x .parent ≡ s
   pub held : Held c x
-  pub clear : T (T s .base + c) .parent ≡ 0
 
 module _ {P : Profile} {T : Cells} {size : ℕ} (w : Tree P T size) {s c : ℕ} {x : Content} (a : Puts P T s c x) where
   -- The cell, and the table with it.
@@ -36,7 +41,7 @@ module _ {P : Profile} {T : Cells} {size : ℕ} (w : Tree P T size) {s c : ℕ} 
   Put = update T put x
 
   put-far : 2 ≤ put
-  put-far = omega (arith, a .based, a .low)
+  put-far = omega (arith, a .place .based, a .place .low)
 
   pub put-one : OneMore T Put put
   put-one = record {
@@ -48,12 +53,12 @@ module _ {P : Profile} {T : Cells} {size : ℕ} (w : Tree P T size) {s c : ℕ} 
   }
     where
       gone : T put ≡ free
-      gone = w .blank put (λ e. omega (arith, put-far)) (a .clear)
+      gone = w .blank put (λ e. omega (arith, put-far)) (a .place .clear)
 
       own : (u : ℕ) → u ≡ put → Put u .parent ≢ put
       own u f e =
           let v : s ≡ put = sym (a .under) ∙ sym (ap (λ y. y .parent) (update-at T put x)) ∙ ap (λ (z : ℕ). Put z .parent) (sym f) ∙ e in
-          omega (arith, a .based, ap (λ (z : ℕ). T z .base) v, ap (λ y. y .base) gone)
+          omega (arith, a .place .based, ap (λ (z : ℕ). T z .base) v, ap (λ y. y .base) gone)
 
       other : (u : ℕ) → Put u .parent ≡ put → u ≢ put → ⊥
       other u e d =
@@ -66,17 +71,17 @@ module _ {P : Profile} {T : Cells} {size : ℕ} (w : Tree P T size) {s c : ℕ} 
   put-step : Step Put s c put
   put-step =
       let e = update-off T put x s s-off in
-      record { based = rw e (a .based); at = rw e; back = ap (λ y. y .parent) (update-at T put x) ∙ a .under }
+      record { based = rw e (a .place .based); at = rw e; back = ap (λ y. y .parent) (update-at T put x) ∙ a .under }
 
   put-sits : Sits P Put put
-  put-sits = record { code = c; step = rw (put-step .back) put-step; low = a .low; high = a .high; held = rw (update-at T put x) (a .held) }
+  put-sits = record { code = c; step = rw (put-step .back) put-step; low = a .place .low; high = a .place .high; held = rw (update-at T put x) (a .held) }
 
   pub put-tree : Tree P Put (max size put)
   put-tree = tree-more put-one (max size put) (omega arith) (omega arith) put-sits w
 
   pub put-path : (path : List ℕ) → node T path ≡ s → node Put (c ∷ path) ≡ put
   unfolding node
-  put-path path e = rw (path-more put-one path e (based-pos w s (a .based))) (step-next Put put-step)
+  put-path path e = rw (path-more put-one path e (based-pos w s (a .place .based))) (step-next Put put-step)
 
   pub put-fruit : Fruit T s → Fruit Put put
   put-fruit = fruit-more put-one s c put-step
@@ -105,6 +110,10 @@ pub word-low : (P : Profile) (c : ℕ) (cs : List ℕ) → Word P c cs → 1 ≤
 word-low P c [] e = omega arith
 word-low P c (d ∷ cs) k = omega (arith, k .0)
 
+pub word-high : (P : Profile) (c : ℕ) (cs : List ℕ) → 1 ≤ P .greatest → Word P c cs → c ≤ P .greatest
+word-high P c [] h e = omega arith
+word-high P c (d ∷ cs) h k = k .1
+
 -- A cell's base does not matter to what is used.
 used-same : (T : Cells) (t : ℕ) (x y : Content) → x .parent ≡ y .parent → (u : ℕ) → update T t x u .parent ≡ update T t y u .parent
 used-same T t x y e u = ⊎-elim own (λ d. rw (update-off T t x u d, update-off T t y u d)) (same? u t)
@@ -130,26 +139,38 @@ pub record Grown (P : Profile) (T : Cells) (path : List ℕ) (n : ℕ) (R : Tabl
   pub stays : (r : List ℕ) → 1 ≤ node T r → node (R .cells) r ≡ node T r
 
 module _ {P : Profile} (some : 1 ≤ P .greatest) (last n : ℕ) (row : isRow n ≡ true) where
-  pub grow-grown : (cs : List ℕ) (c : ℕ) {T : Cells} {size s : ℕ} (path : List ℕ) → Tree P T size → Word P c cs → node T path ≡ s → 1 ≤ T s .base → T (T s .base + c) .parent ≡ 0 → Fruit T s → Grown P T (reverseAux (c ∷ cs) path) n (grow last T size s c cs n .table)
+  -- The place of the next label, below the cell t, whose base is q.
+  further : (T : Cells) (t s q d : ℕ) (ds : List ℕ) → Word P d ds → used (update T t (inner s 1)) (q + d) ≡ false → 1 ≤ q →
+      Place P (update T t (inner s q)) t d
+  further T t s q d ds wd e h =
+      let f : update T t (inner s q) t .base ≡ q = ap (λ x. x .base) (update-at T t (inner s q)) in
+      record {
+        based = rw f h;
+        low = word-low P d ds wd;
+        high = word-high P d ds some wd;
+        clear = rw f (used-same T t (inner s q) (inner s 1) refl (q + d) ∙ unused-parent (update T t (inner s 1)) (q + d) e);
+      }
+
+  pub grow-grown : (cs : List ℕ) (c : ℕ) {T : Cells} {size s : ℕ} (path : List ℕ) → Tree P T size → Word P c cs → node T path ≡ s →
+      Place P T s c → Fruit T s → Grown P T (reverseAux (c ∷ cs) path) n (grow last T size s c cs n .table)
   unfolding grow
-  grow-grown [] c {T} {size} {s} path w wd e based clear fruit =
-      let a : Puts P T s c (leaf s n) = record { based = based; low = omega arith; high = omega arith; under = refl; held = aLeaf wd refl row; clear = clear } in
+  grow-grown [] c {T} {size} {s} path w wd e p fruit =
+      let a : Puts P T s c (leaf s n) = record { place = p; under = refl; held = aLeaf wd refl row } in
       record {
         meant = record { tree = put-tree w a; here = put-here w a path e; else = put-other w a path e; fruit = leaf-fruit w a refl fruit };
         stays = λ r h. path-more (put-one w a) r refl h;
       }
-  grow-grown (d ∷ cs) c {T} {size} {s} path w wd e based clear fruit =
+  grow-grown (d ∷ cs) c {T} {size} {s} path w wd e p fruit =
       let t = T s .base + c in
-      let a : (b : ℕ) → 1 ≤ b → Puts P T s c (inner s b) = λ b h. record { based = based; low = omega (arith, wd .0); high = wd .1; under = refl; held = anInner (wd .0) h refl; clear = clear } in
+      let a : (b : ℕ) → 1 ≤ b → Puts P T s c (inner s b) = λ b h. record { place = p; under = refl; held = anInner (wd .0) h refl } in
       let one = update T t (inner s 1) in
       let past = past-unused (put-tree w (a 1 (omega arith))) in
       let q = placed (used one) (max size t) (d ∷ []) in
       let q-pos = placed-pos (used one) (max size t) past (d ∷ []) in
-      let q-clear = unused-parent one (q + d) (opens-each (used one) (d ∷ []) q d (placed-opens (used one) (max size t) past (d ∷ [])) (inl refl)) in
-      let f : update T t (inner s q) t .base ≡ q = ap (λ x. x .base) (update-at T t (inner s q)) in
-      let clear′ : update T t (inner s q) (update T t (inner s q) t .base + d) .parent ≡ 0 = rw f (used-same T t (inner s q) (inner s 1) refl (q + d) ∙ q-clear) in
       let w′ = a q q-pos in
-      let g = grow-grown cs d (c ∷ path) (put-tree w w′) (wd .2) (put-path w w′ path e) (rw f q-pos) clear′ (put-fruit w w′ fruit) in
+      let q-opens = opens-each (used one) (d ∷ []) q d (placed-opens (used one) (max size t) past (d ∷ [])) (inl refl) in
+      let next = further T t s q d cs (wd .2) q-opens q-pos in
+      let g = grow-grown cs d (c ∷ path) (put-tree w w′) (wd .2) (put-path w w′ path e) next (put-fruit w w′ fruit) in
       let m = g .meant in
       record {
         meant = record { tree = m .tree; here = m .here; fruit = m .fruit; else = λ r ne. m .else r ne ∙ put-inner w w′ refl r };

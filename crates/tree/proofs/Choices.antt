@@ -1,7 +1,7 @@
 -- Cases of numbers and choices by a test. Assumes nothing.
 use mathlib.Core.Path.{_≡_, refl}
 use mathlib.Core.Logic.{_≢_, _⊎_, inl, inr}
-use mathlib.Core.Bool.{Bool, true, false, cond, _||_, true≢false}
+use mathlib.Core.Bool.{Bool, true, false, cond, _&&_, _||_, true≢false}
 use Prim.Native.Nat.{ℕ, zero, suc, _≤_}
 use native.Mathlib.Decide.{ℕ-discrete}
 use native.Mathlib.Omega.{arith}
@@ -36,10 +36,24 @@ pub branch {ℓ} : {A : Type 0} (F : A → Type ℓ) (b : Bool) {x y : A} → (b
 branch F true f g = f refl
 branch F false f g = g refl
 
-pub neither : (a b : Bool) → (a || b) ≡ false → (a ≡ false) × (b ≡ false)
-neither true b e = absurd (true≢false e)
-neither false b e = (refl, e)
+-- ---- two tests
 
-pub fails : (b : Bool) → (b ≡ true → ⊥) → b ≡ false
-fails true n = absurd (n refl)
-fails false n = refl
+pub join : {s t : Bool} → s ≡ true → t ≡ true → (s && t) ≡ true
+join e f = rw e f
+
+pub either : (s t : Bool) → (s || t) ≡ true → (s ≡ true) ⊎ (t ≡ true)
+either true t e = inl refl
+either false t e = inr e
+
+pub neither : (s t : Bool) → (s || t) ≡ false → (s ≡ false) × (t ≡ false)
+neither true t e = absurd (true≢false e)
+neither false t e = (refl, e)
+
+-- One of them passes, if the second does wherever the first fails.
+pub otherwise : (s t : Bool) → (s ≡ false → t ≡ true) → (s || t) ≡ true
+otherwise true t h = refl
+otherwise false t h = h refl
+
+pub fails : (s : Bool) → (s ≡ true → ⊥) → s ≡ false
+fails true h = absurd (h refl)
+fails false h = refl

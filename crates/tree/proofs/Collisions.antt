@@ -10,7 +10,7 @@ use lib.Dec.{eqb}
 use Rattle.rules.specs.WhatTheIndexDoes.{Profile}
 use Rattle.rules.specs.Table.{Cells, used, next, node, childCodes}
 use Rattle.rules.specs.Placement.{greatestOf, placed}
-use Rattle.rules.specs.Insertion.{relocate}
+use Rattle.rules.specs.Insertion.{relocate, Course, grow}
 use Rattle.tree.specs.Members.{Among, Once}
 use Rattle.tree.specs.Moved.{Changed, Moved}
 use Rattle.tree.specs.Soundness.{Tree}
@@ -21,6 +21,7 @@ use Rattle.tree.proofs.Placement.{greatest-least}
 use Rattle.tree.proofs.ChildCodes.{codes-lead, step-among}
 use Rattle.tree.proofs.Relocation.{Fit, ρ, s-pos, child-changes, to-other, to-pos, node-moved, s-moved, clear-moved}
 use Rattle.tree.proofs.RelocatedTree.{tree-moved}
+use Rattle.tree.proofs.Branches.{Place}
 use Rattle.tree.proofs.PlacedChildren.{placed-clear, child-among, placed-fit}
 
 codes-once : (T : Cells) (s k : ℕ) → Once (childCodes T s k)
@@ -50,15 +51,29 @@ module _ {P : Profile} {T : Cells} {size : ℕ} (w : Tree P T size) (s c : ℕ) 
   unfolding relocate
   collide-base = s-moved w collide-fit
 
-  pub collide-clear : next T s c ≡ 0 → relocate T s base′ (relocate T s base′ s .base + c) .parent ≡ 0
+  -- The course of the labels cs after the move.
+  abbrev pub collided : ℕ → List ℕ → ℕ → Course
+  collided last cs n = grow last (relocate T s base′) (max size (base′ + greatestOf (c ∷ codes))) s c cs n
+
+  pub collide-place : next T s c ≡ 0 → 1 ≤ c → c ≤ P .greatest → Place P (relocate T s base′) s c
   unfolding relocate
-  collide-clear none = rw (s-moved w collide-fit) (clear-moved w collide-fit c nowhere (placed-clear w s based (c ∷ codes) (λ d a. inr a) c (inl refl)))
+  collide-place none low high =
+      let clear = placed-clear w s based (c ∷ codes) (λ d a. inr a) c (inl refl) in
+      record {
+        based = rw (s-moved w collide-fit) (collide-fit .new);
+        low = low;
+        high = high;
+        clear = rw (s-moved w collide-fit) (clear-moved w collide-fit c nowhere clear);
+      }
     where
       nowhere : T (T s .base + c) .parent ≢ s
       nowhere k = omega (arith, none, step-next T {s = s} {c = c} (record { based = based; at = refl; back = k }))
 
-  -- R is the table after the move, or one in which every node of it stands where it then was.
-  module _ (R : Cells) (stays : (r : List ℕ) → 1 ≤ node (relocate T s base′) r → node R r ≡ node (relocate T s base′) r) (path : List ℕ) (e : node T path ≡ s) where
+  -- Every node stands in R where it stands in the table after the move.
+  abbrev Stays : Cells → Type 0
+  Stays R = (r : List ℕ) → 1 ≤ node (relocate T s base′) r → node R r ≡ node (relocate T s base′) r
+
+  module _ (R : Cells) (stays : Stays R) (path : List ℕ) (e : node T path ≡ s) where
     node-now : (r : List ℕ) → 1 ≤ node T r → node R r ≡ ρ w collide-fit (node T r)
     unfolding relocate
     node-now r h =
@@ -69,7 +84,8 @@ module _ {P : Profile} {T : Cells} {size : ℕ} (w : Tree P T size) (s c : ℕ) 
     changed r h k = record { was = h; now = λ f. child-changes w collide-fit (node T r) k (sym (node-now r h) ∙ f) }
 
     is-child : (r : List ℕ) → Changed T R r → T (node T r) .parent ≡ s
-    is-child r k = ⊎-elim (λ f. f) (λ d. absurd (k .now (node-now r (k .was) ∙ to-other w collide-fit (node T r) d))) (same? (T (node T r) .parent) s)
+    is-child r k = ⊎-elim (λ f. f)
+        (λ d. absurd (k .now (node-now r (k .was) ∙ to-other w collide-fit (node T r) d))) (same? (T (node T r) .parent) s)
 
     child-path : (r : List ℕ) → Changed T R r → (d : ℕ) × Among d codes × (r ≡ d ∷ path)
     unfolding node
@@ -86,6 +102,6 @@ module _ {P : Profile} {T : Cells} {size : ℕ} (w : Tree P T size) (s c : ℕ) 
       codes = codes;
       once = codes-once T s (P .greatest);
       many = refl;
-      each = λ d a. let p = next-step T (codes-lead T s (P .greatest) d a .2) in changed (d ∷ path) (rw e (codes-lead T s (P .greatest) d a .2)) (rw e (p .back));
+      each = λ d a. let n = codes-lead T s (P .greatest) d a .2 in changed (d ∷ path) (rw e n) (rw e (next-step T n .back));
       all = child-path;
     }

@@ -1,20 +1,20 @@
 -- Compaction keeps a sound table sound and every row where it was, and leaves no size past the largest used cell. Assumes nothing.
 use mathlib.Core.Path.{_≡_, refl, sym, _∙_}
 use mathlib.Core.Bool.{_&&_}
-use mathlib.Core.List.{List}
+use mathlib.Core.List.{List, reverse}
 use Prim.Native.Nat.{ℕ, zero, suc, _+_, _≤_, _<_}
 use native.Mathlib.Omega.{arith}
 use lib.Dec.{ltb, eqb}
 use borrow.Author.Tests.{ltb-true}
-use Rattle.rules.specs.WhatTheIndexDoes.{Profile}
-use Rattle.rules.specs.Table.{Table, used, largestUsed, next, childCodes}
+use Rattle.rules.specs.WhatTheIndexDoes.{Profile, labels}
+use Rattle.rules.specs.Table.{Table, used, largestUsed, next, lookup, childCodes}
 use Rattle.rules.specs.Placement.{placed}
 use Rattle.rules.specs.Insertion.{relocate}
 use Rattle.rules.specs.DeletionAndCompaction.{Moves, trimmed, compactionStep, compactionSteps, compacted}
 use Rattle.rules.proofs.Ranges.{both}
 use Rattle.tree.specs.Soundness.{rowAt, Sound}
 use Rattle.tree.proofs.Choices.{branch}
-use Rattle.tree.proofs.Steps.{step-next}
+use Rattle.tree.proofs.Steps.{step-next, lookup-same}
 use Rattle.tree.proofs.Relocation.{s-pos, row-moved}
 use Rattle.tree.proofs.RelocatedTree.{tree-moved, sound-moved}
 use Rattle.tree.proofs.PlacedChildren.{placed-fit}
@@ -64,6 +64,9 @@ module _ {P : Profile} where
   same-again : {t t′ t″ : Table} → Same P t t′ → Same P t′ t″ → Same P t t″
   same-again a b = record { sound = b .sound; rows = λ r. b .rows r ∙ a .rows r; less = omega (arith, a .less, b .less) }
 
+  pub same-lookup : {t t′ : Table} → Same P t t′ → (key : List ℕ) → lookup P (t′ .cells) key ≡ lookup P (t .cells) key
+  same-lookup {t} {t′} a key = lookup-same (t .cells) (t′ .cells) P key (a .rows (reverse (labels P key)))
+
   same-self : {t : Table} → Sound P t → Same P t t
   same-self w = record { sound = w; rows = λ r. refl; less = omega arith }
 
@@ -83,7 +86,8 @@ module _ {P : Profile} where
   move-same {t} w h lower =
       let k = w .tree .sits (top P t) (largest-parent (t .cells) (t .size) h) in
       let m = placed-fit (w .tree) (owner P t) (k .step .based) (childCodes (t .cells) (owner P t) (P .greatest)) (λ c a. a) in
-      let v = tree-moved (w .tree) m (t .size) (omega arith) (λ c e. omega (arith, w .tree .inside (t .cells (owner P t) .base + c) (rw e (s-pos (w .tree) m)))) in
+      let b = t .cells (owner P t) .base in
+      let v = tree-moved (w .tree) m (t .size) (omega arith) (λ c e. omega (arith, w .tree .inside (b + c) (rw e (s-pos (w .tree) m)))) in
       let n : 1 ≤ next (t .cells) (owner P t) (k .code) = rw (step-next (t .cells) (k .step)) (omega arith) in
       record { sound = sound-moved (w .tree) m (w .fruit) (w .deep) (k .code) n (t .size) v; rows = row-moved (w .tree) m; less = omega arith }
 

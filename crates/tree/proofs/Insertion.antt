@@ -31,14 +31,18 @@ module _ {P : Profile} (trip : RoundTrip P) where
       (trip .unmarked b (leb-true _ _ k), trip .range b, word-labels d bs hs)
 
   module _ (last : ℕ) {t : Table} (w : Sound P t) where
-    inserted-path : (key : List ℕ) (n : ℕ) → isIdentifier P key ≡ true → isRow n ≡ true → lookup P (t .cells) key ≡ 0 → Inserted P (t .cells) (reverse (labels P key)) n (inserted P last t key n)
+    inserted-path : (key : List ℕ) (n : ℕ) → isIdentifier P key ≡ true → isRow n ≡ true → lookup P (t .cells) key ≡ 0 →
+        Inserted P (t .cells) (reverse (labels P key)) n (inserted P last t key n)
     unfolding inserted labels node
     inserted-path [] n k row absent = absurd (omega (arith, identifier-short P [] k))
     inserted-path (b ∷ bs) n k row absent =
         let wd = word-labels b bs (identifier-coded P (b ∷ bs) k) in
-        insert-from (omega (arith, word-low P (P .code b) (labels P bs) wd, trip .range b)) last n row (w .tree) (w .fruit) (labels P bs) (P .code b) 1 [] wd refl (w .tree .root-base) (sym (lookup-row (t .cells) P (b ∷ bs)) ∙ absent)
+        let some : 1 ≤ P .greatest = omega (arith, word-low P (P .code b) (labels P bs) wd, trip .range b) in
+        let gone = sym (lookup-row (t .cells) P (b ∷ bs)) ∙ absent in
+        insert-from some last n row (w .tree) (w .fruit) (labels P bs) (P .code b) 1 [] wd refl (w .tree .root-base) gone
 
-    inserted-deep : (key : List ℕ) (n : ℕ) (t′ : Table) → isIdentifier P key ≡ true → Meant P (t .cells) (reverse (labels P key)) n t′ → Deep P (t′ .cells)
+    inserted-deep : (key : List ℕ) (n : ℕ) (t′ : Table) → isIdentifier P key ≡ true → Meant P (t .cells) (reverse (labels P key)) n t′ →
+        Deep P (t′ .cells)
     inserted-deep key n t′ k m path h = ⊎-elim own (λ d. w .deep path (rw (m .else path d) at h)) (same-list? path (reverse (labels P key)))
       where
         own : path ≡ reverse (labels P key) → (2 ≤ length path) × (length path ≤ suc (P .limit))
@@ -47,7 +51,8 @@ module _ {P : Profile} (trip : RoundTrip P) where
             let z : length path ≡ suc (length key) = ap (λ (r : List ℕ). length r) e ∙ path-length P key in
             (omega arith, omega arith)
 
-    inserted-sound : (key : List ℕ) (n : ℕ) (t′ : Table) → isIdentifier P key ≡ true → isRow n ≡ true → Meant P (t .cells) (reverse (labels P key)) n t′ → Sound P t′
+    inserted-sound : (key : List ℕ) (n : ℕ) (t′ : Table) → isIdentifier P key ≡ true → isRow n ≡ true →
+        Meant P (t .cells) (reverse (labels P key)) n t′ → Sound P t′
     inserted-sound key n t′ k row m = record { tree = m .tree; fruit = m .fruit; bare = bare; deep = inserted-deep key n t′ k m }
       where
         bare : Bare (t′ .cells)
@@ -70,4 +75,6 @@ module _ {P : Profile} (trip : RoundTrip P) where
     pub inserted-honest : (key : List ℕ) (n : ℕ) → isIdentifier P key ≡ true → t .size ≤ last → Honest last (inserted P last t key n)
     unfolding inserted labels
     inserted-honest [] n k h = absurd (omega (arith, identifier-short P [] k))
-    inserted-honest (b ∷ bs) n k h = insert-honest last (w .tree) h n (labels P bs) (P .code b) 1 (word-labels b bs (identifier-coded P (b ∷ bs) k)) (w .tree .root-base)
+    inserted-honest (b ∷ bs) n k h =
+        let wd = word-labels b bs (identifier-coded P (b ∷ bs) k) in
+        insert-honest last (w .tree) h n (labels P bs) (P .code b) 1 wd (w .tree .root-base)

@@ -1,14 +1,14 @@
 -- The largest used cell: it is used, no used cell is larger, and a tree's size can be cut down to it. Assumes nothing.
 use mathlib.Core.Path.{_≡_, refl, sym, ap, _∙_}
-use mathlib.Core.Logic.{_≢_, ⊎-elim}
+use mathlib.Core.Logic.{_≢_}
 use mathlib.Core.Bool.{true, true≢false}
 use Prim.Native.Nat.{ℕ, zero, suc, _≤_, _<_, max}
 use native.Mathlib.Omega.{arith}
 use Rattle.rules.specs.WhatTheIndexDoes.{Profile}
 use Rattle.rules.specs.Table.{Cells, used, largestUsed}
 use Rattle.tree.specs.Soundness.{Tree}
-use Rattle.tree.proofs.Choices.{some?, branch}
-use Rattle.tree.proofs.Trees.{parent-used, parent-unused}
+use Rattle.tree.proofs.Choices.{branch}
+use Rattle.tree.proofs.UsedCells.{parent-used, other-parent}
 
 module _ (T : Cells) where
   pub largest-pos : (k : ℕ) → 1 ≤ largestUsed T k
@@ -37,9 +37,7 @@ module _ (T : Cells) where
   largest-used (suc k) = branch (λ (m : ℕ). used T m ≡ true) (used T (suc k)) (λ e. e) (λ e. largest-used k)
 
   pub largest-parent : (k : ℕ) → 1 < largestUsed T k → 1 ≤ T (largestUsed T k) .parent
-  largest-parent k h =
-      let m = largestUsed T k in
-      ⊎-elim (λ z. absurd (true≢false (sym (largest-used k) ∙ parent-unused T m (λ e. omega arith) z))) (λ u. u) (some? (T m .parent))
+  largest-parent k h = other-parent T (largestUsed T k) (λ e. omega arith) (largest-used k)
 
   pub largest-again : (k : ℕ) → largestUsed T (largestUsed T k) ≡ largestUsed T k
   largest-again k =

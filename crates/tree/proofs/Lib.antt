@@ -4,6 +4,7 @@ pub mod Choices
 pub mod Ranges
 -- Steps, walks and paths.
 pub mod Steps
+pub mod UsedCells
 pub mod Trees
 -- Placement.
 pub mod Placement
@@ -30,6 +31,15 @@ pub mod LargestUsed
 pub mod Compaction
 pub mod StepsTaken
 pub mod Deletion
+-- The two arrays: the seven rules, and the chain.
+pub mod Elements
+pub mod Climbs
+pub mod ReadTests
+pub mod FreeCells
+pub mod FromRules
+pub mod ToRules
+pub mod SevenRules
+pub mod TheChain
 -- The listing.
 pub mod Listing
 -- Demand 2.

@@ -76,10 +76,7 @@ module _ {T N : Cells} {t : ℕ} (o : OneMore T N t) where
     where
       go : Apart (node N path) (node T path) → Apart (next N (node N path) c) (next T (node T path) c)
       go (inl (e, d)) = rw e (next-apart (node T path) c)
-      go (inr (e, f)) = inl (ap (λ (y : ℕ). next N y c) e ∙ next-alone c ∙ sym none, λ g. omega (arith, o .far, ap (λ (y : ℕ). next N y c) e, next-alone c))
-        where
-          none : next T (node T path) c ≡ 0
-          none = ap (λ (y : ℕ). next T y c) f ∙ next-baseless T 0 c (ap (λ x. x .base) (o .nowhere))
+      go (inr (e, f)) = rw (e, f, next-alone, next-baseless T 0 c (ap (λ x. x .base) (o .nowhere))) (inl (refl, λ g. omega (arith, o .far)))
 
   pub path-more : (path : List ℕ) {u : ℕ} → node T path ≡ u → 1 ≤ u → node N path ≡ u
   path-more path e h = ⊎-elim (λ (f, d). f ∙ e) (λ (f, z). absurd (omega arith)) (node-apart path)
@@ -90,7 +87,8 @@ module _ {T N : Cells} {t : ℕ} (o : OneMore T N t) where
   -- ---- rows
 
   pub row-other : (path : List ℕ) → node N path ≢ t → rowAt N path ≡ rowAt T path
-  row-other path d = ⊎-elim (λ (e, n). ap (λ x. x .row) (o .same (node N path) n) ∙ ap (λ (u : ℕ). T u .row) e) (λ (e, z). absurd (d e)) (node-apart path)
+  row-other path d = ⊎-elim
+      (λ (e, n). ap (λ x. x .row) (o .same (node N path) n) ∙ ap (λ (u : ℕ). T u .row) e) (λ (e, z). absurd (d e)) (node-apart path)
 
   pub row-gone : (path : List ℕ) → node N path ≡ t → rowAt T path ≡ 0
   row-gone path e = ⊎-elim (λ (f, n). absurd (n e)) (λ (f, z). ap (λ (u : ℕ). T u .row) z ∙ ap (λ x. x .row) (o .nowhere)) (node-apart path)
@@ -130,10 +128,14 @@ module _ {T N : Cells} {t : ℕ} (o : OneMore T N t) where
 
   module _ {P : Profile} where
     sits-more : (u : ℕ) → u ≢ t → Sits P T u → Sits P N u
-    sits-more u d k = record { code = k .code; step = rw (o .same u d) (step-more (k .step)); low = k .low; high = k .high; held = rw (o .same u d) (k .held) }
+    sits-more u d k =
+        let e = o .same u d in
+        record { code = k .code; step = rw e (step-more (k .step)); low = k .low; high = k .high; held = rw e (k .held) }
 
     sits-less : (u : ℕ) → u ≢ t → Sits P N u → Sits P T u
-    sits-less u d k = record { code = k .code; step = rw (← o .same u d) (step-less d (k .step)); low = k .low; high = k .high; held = rw (← o .same u d) (k .held) }
+    sits-less u d k =
+        let e = sym (o .same u d) in
+        record { code = k .code; step = rw e (step-less d (k .step)); low = k .low; high = k .high; held = rw e (k .held) }
 
     module _ {size : ℕ} (size′ : ℕ) (wider : size ≤ size′) (below : t ≤ size′) (st : Sits P N t) (w : Tree P T size) where
       parent-based : 1 ≤ T (N t .parent) .base

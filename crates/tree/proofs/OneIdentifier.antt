@@ -1,5 +1,5 @@
 -- What an edit of one identifier means: a table that differs at one path differs at one identifier. Assumes nothing.
-use mathlib.Core.Path.{_≡_, sym, _∙_}
+use mathlib.Core.Path.{_≡_, _∙_}
 use mathlib.Core.Logic.{_≢_, _⊎_, inl, inr}
 use mathlib.Core.Bool.{true}
 use mathlib.Core.List.{List, reverse, List-discrete}
@@ -8,7 +8,7 @@ use native.Mathlib.Decide.{ℕ-discrete}
 use Rattle.rules.specs.WhatTheIndexDoes.{Profile, RoundTrip, isIdentifier, labels}
 use Rattle.rules.specs.Table.{Table, lookup}
 use Rattle.tree.specs.Soundness.{rowAt, Sound}
-use Rattle.tree.proofs.Steps.{lookup-row}
+use Rattle.tree.proofs.Steps.{lookup-row, lookup-same}
 use Rattle.tree.proofs.Identifiers.{path-inj, identifier-coded}
 
 -- The table t′ is sound, has the row n at key (0: none), and at any other identifier what t has.
@@ -27,11 +27,12 @@ same-list? r p = go (List-discrete ℕ-discrete r p)
 
 module _ {P : Profile} (trip : RoundTrip P) where
   -- A table that differs from t at one path differs at one identifier.
-  pub path-now : {t t′ : Table} (key : List ℕ) (n : ℕ) → isIdentifier P key ≡ true → Sound P t′ → rowAt (t′ .cells) (reverse (labels P key)) ≡ n → ((r : List ℕ) → r ≢ reverse (labels P key) → rowAt (t′ .cells) r ≡ rowAt (t .cells) r) → Now P t key n t′
+  pub path-now : {t t′ : Table} (key : List ℕ) (n : ℕ) → isIdentifier P key ≡ true → Sound P t′ →
+      rowAt (t′ .cells) (reverse (labels P key)) ≡ n →
+      ((r : List ℕ) → r ≢ reverse (labels P key) → rowAt (t′ .cells) r ≡ rowAt (t .cells) r) → Now P t key n t′
   path-now {t} {t′} key n k sound here else = record {
     sound = sound;
     here = lookup-row (t′ .cells) P key ∙ here;
-    else = λ j h d.
-        let ne : reverse (labels P j) ≢ reverse (labels P key) = (λ e. d (path-inj trip j key (identifier-coded P j h) (identifier-coded P key k) e)) in
-        lookup-row (t′ .cells) P j ∙ else (reverse (labels P j)) ne ∙ sym (lookup-row (t .cells) P j);
+    else = λ j h d. lookup-same (t .cells) (t′ .cells) P j (else (reverse (labels P j)) (λ e.
+        d (path-inj trip j key (identifier-coded P j h) (identifier-coded P key k) e)));
   }

@@ -7,12 +7,17 @@ use Rattle.rules.specs.Table.{Cells, used, childCodes}
 use Rattle.rules.specs.Placement.{placed}
 use Rattle.tree.specs.Members.{Among}
 use Rattle.tree.specs.Soundness.{Step, Tree}
-use Rattle.tree.proofs.Trees.{unused-parent, past-unused}
+use Rattle.tree.proofs.UsedCells.{unused-parent}
+use Rattle.tree.proofs.Trees.{past-unused}
 use Rattle.tree.proofs.Placement.{opens-each, placed-pos, placed-opens}
 use Rattle.tree.proofs.ChildCodes.{step-among}
 use Rattle.tree.proofs.Relocation.{Fit}
 
-module _ {P : Profile} {T : Cells} {size : ℕ} (w : Tree P T size) (s : ℕ) (based : 1 ≤ T s .base) (cs : List ℕ) (more : (c : ℕ) → Among c (childCodes T s (P .greatest)) → Among c cs) where
+-- The codes of the children of s are among cs.
+abbrev pub Include : Profile → Cells → ℕ → List ℕ → Type 0
+Include P T s cs = (c : ℕ) → Among c (childCodes T s (P .greatest)) → Among c cs
+
+module _ {P : Profile} {T : Cells} {size : ℕ} (w : Tree P T size) (s : ℕ) (based : 1 ≤ T s .base) (cs : List ℕ) (more : Include P T s cs) where
   pub placed-clear : (c : ℕ) → Among c cs → T (placed (used T) size cs + c) .parent ≡ 0
   placed-clear c k = unused-parent T _ (opens-each (used T) cs (placed (used T) size cs) c (placed-opens (used T) size (past-unused w) cs) k)
 

@@ -19,11 +19,11 @@ use Rattle.tree.proofs.RelocatedTree.{tree-moved, fruit-moved}
 use Rattle.tree.proofs.OneCell.{update-at, update-off, OneMore, path-less, row-other, row-gone, row-inner, fruit-less, tree-less}
 
 -- R is a tree with the rows of T, in which every inner cell has a child.
-pub record Alike (P : Profile) (T : Cells) (size : ℕ) (R : Cells) : Type 0 where
-  pub tree : Tree P R size
-  pub rows : (r : List ℕ) → rowAt R r ≡ rowAt T r
-  pub fruit : Fruit R 0
-  pub bare : Bare R
+record Alike (P : Profile) (T : Cells) (size : ℕ) (R : Cells) : Type 0 where
+  tree : Tree P R size
+  rows : (r : List ℕ) → rowAt R r ≡ rowAt T r
+  fruit : Fruit R 0
+  bare : Bare R
 
 -- R is a tree without a row at the path, and otherwise with the rows of T.
 pub record Dropped (P : Profile) (T : Cells) (size : ℕ) (path : List ℕ) (R : Cells) : Type 0 where
@@ -33,7 +33,13 @@ pub record Dropped (P : Profile) (T : Cells) (size : ℕ) (path : List ℕ) (R :
   pub fruit : Fruit R 0
   pub bare : Bare R
 
--- ---- one cell less: the last of a path, if it has no children
+-- T is a tree whose inner cell x may be without a child.
+record Left (P : Profile) (T : Cells) (size x : ℕ) : Type 0 where
+  tree : Tree P T size
+  based : 1 ≤ T x .base
+  fruit : Fruit T x
+
+-- ---- one cell less: the last of a path, where it has no children
 
 module _ {P : Profile} {T : Cells} {size : ℕ} (w : Tree P T size) (c : ℕ) (path : List ℕ) (pos : 1 ≤ node T (c ∷ path)) where
   -- The cell, and the table without it.
@@ -46,78 +52,79 @@ module _ {P : Profile} {T : Cells} {size : ℕ} (w : Tree P T size) (c : ℕ) (p
   step-last : Step T (node T path) c last
   step-last = last-step w c path refl pos
 
-  module _ (alone : (u : ℕ) → T u .parent ≢ last) where
+  module _ (none : childless T last (P .greatest) ≡ true) where
     one-less : OneMore Less T last
     one-less = record {
       far = step-far w step-last;
       same = λ u d. sym (update-off T last free u d);
       gone = update-at T last free;
       nowhere = update-off T last free 0 (λ e. omega arith) ∙ w .nowhere;
-      alone = alone;
+      alone = childless-alone w last none pos;
     }
 
     parent-off : node T path ≢ last
-    parent-off e = alone last (step-last .back ∙ e)
+    parent-off e = one-less .alone last (step-last .back ∙ e)
 
     parent-stays : node Less path ≡ node T path
     parent-stays = path-less one-less path refl parent-off
 
-    parent-based : 1 ≤ Less (node Less path) .base
-    parent-based = rw (parent-stays, update-off T last free (node T path) parent-off) (step-last .based)
+    parent-left : Fruit T last → Left P Less size (node Less path)
+    parent-left f = record {
+      tree = tree-less one-less w;
+      based = rw (parent-stays, update-off T last free (node T path) parent-off) (step-last .based);
+      fruit = rw (parent-stays, ← step-last .back) (fruit-less one-less f);
+    }
 
-    -- The parent is then the only inner cell that may have no child.
-    parent-fruit : Fruit T last → Fruit Less (node Less path)
-    parent-fruit f = rw (parent-stays, ← step-last .back) (fruit-less one-less f)
+    inner-alike : T last .row ≡ 0 → {R : Cells} → Alike P Less size R → Alike P T size R
+    inner-alike z k = record { tree = k .tree; rows = λ r. k .rows r ∙ sym (row-inner one-less z r); fruit = k .fruit; bare = k .bare }
 
--- ---- the root, if it is left without children, and a node that has a child
+    leaf-dropped : {R : Cells} → Alike P Less size R → Dropped P T size (c ∷ path) R
+    leaf-dropped k = record {
+      tree = k .tree;
+      here = k .rows (c ∷ path) ∙ row-gone one-less (c ∷ path) refl;
+      else = λ r d. k .rows r ∙ sym (row-other one-less r (λ e. d (one-path w r (c ∷ path) e refl pos)));
+      fruit = k .fruit;
+      bare = k .bare;
+    }
 
-module _ {P : Profile} {T : Cells} {size : ℕ} (w : Tree P T size) where
-  root-alike : Fruit T 1 → childless T 1 (P .greatest) ≡ true → Alike P T size (relocate T 1 1)
+-- ---- each parent left without a child
+
+module _ {P : Profile} where
+  root-alike : {T : Cells} {size : ℕ} → Left P T size 1 → childless T 1 (P .greatest) ≡ true → Alike P T size (relocate T 1 1)
   unfolding relocate
-  root-alike f e =
+  root-alike {T} {size} l e =
+      let w = l .tree in
       let none = childless-alone w 1 e (omega arith) in
-      let m : Fit T 1 (T 1 .base) 1 = record { held = refl; old = w .root-base; new = omega arith; clear = λ c k. absurd (none _ k) } in
+      let m : Fit T 1 (T 1 .base) 1 = record { held = refl; old = l .based; new = omega arith; clear = λ c k. absurd (none _ k) } in
       record {
         tree = tree-moved w m size (omega arith) (λ c k. absurd (none _ k));
         rows = row-moved w m;
-        fruit = fruit-moved w m (λ u d h k. f u (λ v. omega (arith, w .root-parent, ap (λ (x : ℕ). T x .parent) v)) h k);
+        fruit = fruit-moved w m (λ u d h. l .fruit u (λ v. omega (arith, w .root-parent, ap (λ (x : ℕ). T x .parent) v)) h);
         bare = λ _. s-moved w m;
       }
 
-  stays-alike : (x : ℕ) → Fruit T x → Bare T → childless T x (P .greatest) ≡ false → Alike P T size T
-  stays-alike x f b e = record { tree = w; rows = λ r. refl; bare = b; fruit = let (c, n) = child-next T x (P .greatest) e in fruit-whole w x c n f }
+  stays-alike : {T : Cells} {size x : ℕ} → Left P T size x → Bare T → childless T x (P .greatest) ≡ false → Alike P T size T
+  stays-alike {T} {x = x} l b e =
+      let (c, n) = child-next T x (P .greatest) e in
+      record { tree = l .tree; rows = λ r. refl; fruit = fruit-whole (l .tree) x c n (l .fruit); bare = b }
 
--- ---- the whole path
-
-module _ {P : Profile} where
-  prune-alike : (path : List ℕ) {T : Cells} {size : ℕ} → Tree P T size → 1 ≤ T (node T path) .base → Fruit T (node T path) → Alike P T size (prune P T path)
+  prune-alike : (path : List ℕ) {T : Cells} {size : ℕ} → Left P T size (node T path) → Alike P T size (prune P T path)
   unfolding prune node
-  prune-alike [] {T} {size} w h f = branch (λ (R : Cells). Alike P T size R) (childless T 1 (P .greatest)) (root-alike w f)
-      (λ e. stays-alike w 1 f (λ none. let (c, n) = child-next T 1 (P .greatest) e in absurd (omega (arith, none c))) e)
-  prune-alike (c ∷ path) {T} {size} w h f =
+  prune-alike [] {T} {size} l = branch (λ (R : Cells). Alike P T size R) (childless T 1 (P .greatest)) (root-alike l)
+      (λ e. stays-alike l (let (c, n) = child-next T 1 (P .greatest) e in bare-path (l .tree) [] c n) e)
+  prune-alike (c ∷ path) {T} {size} l =
       let t = node T (c ∷ path) in
-      let pos = based-pos w t h in
+      let w = l .tree in
+      let pos = based-pos w t (l .based) in
       branch (λ (R : Cells). Alike P T size R) (childless T t (P .greatest))
-      (λ e.
-      let a = childless-alone w t e pos in
-      let one = one-less w c path pos a in
-      let k = prune-alike path (tree-less one w) (parent-based w c path pos a) (parent-fruit w c path pos a f) in
-      record { tree = k .tree; fruit = k .fruit; bare = k .bare; rows = λ r. k .rows r ∙ sym (row-inner one (based-row w t h) r) })
-      (stays-alike w t f (bare-path w path c pos))
+      (λ e. inner-alike w c path pos e (based-row w t (l .based)) (prune-alike path (parent-left w c path pos e (l .fruit))))
+      (stays-alike l (bare-path w path c pos))
 
-  pub prune-dropped : {T : Cells} {size : ℕ} → Tree P T size → Fruit T 0 → (c : ℕ) (path : List ℕ) → 1 ≤ rowAt T (c ∷ path) → Dropped P T size (c ∷ path) (prune P T (c ∷ path))
+  pub prune-dropped : {T : Cells} {size : ℕ} → Tree P T size → Fruit T 0 → (c : ℕ) (path : List ℕ) → 1 ≤ rowAt T (c ∷ path) →
+      Dropped P T size (c ∷ path) (prune P T (c ∷ path))
   unfolding prune
   prune-dropped {T} {size} w f c path h =
       let t = node T (c ∷ path) in
       let pos = row-pos w t h in
-      let leaf = childless-baseless T t (P .greatest) (held-leaf (step-held w (step-last w c path pos)) h .1) in
-      let a = childless-alone w t leaf pos in
-      let one = one-less w c path pos a in
-      let k = prune-alike path (tree-less one w) (parent-based w c path pos a) (parent-fruit w c path pos a (fruit-weak w t f)) in
-      rw leaf (record {
-        tree = k .tree;
-        fruit = k .fruit;
-        bare = k .bare;
-        here = k .rows (c ∷ path) ∙ row-gone one (c ∷ path) refl;
-        else = λ r d. k .rows r ∙ sym (row-other one r (λ e. d (one-path w r (c ∷ path) e refl pos)));
-      })
+      let e = childless-baseless T t (P .greatest) (held-leaf (step-held w (step-last w c path pos)) h .1) in
+      rw e (leaf-dropped w c path pos e (prune-alike path (parent-left w c path pos e (fruit-weak w t f))))

@@ -1,28 +1,58 @@
--- Laws of the tests over ranges. Assumes nothing.
-use mathlib.Core.Path.{_≡_, sym, _∙_}
-use mathlib.Core.Logic.{_≢_}
-use mathlib.Core.Bool.{Bool, true, true≢false}
+-- Laws of the tests over ranges, and of the first number that passes a test. Assumes nothing.
+use mathlib.Core.Path.{_≡_, refl, sym, ap, ap₂, _∙_}
+use mathlib.Core.Logic.{⊎-elim}
+use mathlib.Core.Bool.{Bool, true, cond, true≢false, or-true}
 use Prim.Native.Nat.{ℕ, zero, suc, _+_, _≤_}
-use native.Mathlib.Nat.{add-zero}
+use native.Mathlib.Nat.{add-zero, add-suc, suc-add, eq-or-lt-of-le}
 use native.Mathlib.Omega.{arith}
-use Rattle.rules.specs.Ranges.{firstFrom}
-use Rattle.tree.proofs.Choices.{branch}
+use Rattle.rules.specs.Ranges.{eachTo, someTo, firstFrom}
+use Rattle.tree.proofs.Choices.{branch, either}
 
 module _ (test : ℕ → Bool) where
+  pub to-each : (k : ℕ) → ((i : ℕ) → 1 ≤ i → i ≤ k → test i ≡ true) → eachTo k test ≡ true
+  unfolding eachTo
+  to-each zero h = refl
+  to-each (suc k) h = rw (h (suc k) (omega arith) (omega arith)) (to-each k (λ i low high. h i low (omega arith)))
+
+  pub some-to : (k : ℕ) → someTo k test ≡ true → (i : ℕ) × (1 ≤ i) × (i ≤ k) × (test i ≡ true)
+  unfolding someTo
+  some-to zero e = absurd (true≢false (sym e))
+  some-to (suc k) e = ⊎-elim
+      (λ t. (suc k, omega arith, omega arith, t))
+      (λ t. let (i, low, high, p) = some-to k t in (i, low, omega arith, p))
+      (either (test (suc k)) (someTo k test) e)
+
+  pub to-some : (k i : ℕ) → 1 ≤ i → i ≤ k → test i ≡ true → someTo k test ≡ true
+  unfolding someTo
+  to-some zero i low high e = absurd (omega arith)
+  to-some (suc k) i low high e =
+      ⊎-elim (λ v. rw (← v, e)) (λ l. rw (to-some k i low (omega arith) e, or-true)) (eq-or-lt-of-le high)
+
   pub first-low : (n q : ℕ) → q ≤ firstFrom test n q
   unfolding firstFrom
   first-low zero q = omega arith
-  first-low (suc n) q = branch (λ (m : ℕ). q ≤ m) (test q) (λ e. omega arith) (λ e. omega (arith, first-low n (suc q)))
+  first-low (suc n) q = branch (λ r. q ≤ r) (test q) (λ t. omega arith) (λ f. omega (arith, first-low n (suc q)))
 
   pub first-least : (n q m : ℕ) → q ≤ m → test m ≡ true → firstFrom test n q ≤ m
   unfolding firstFrom
-  first-least zero q m h k = h
-  first-least (suc n) q m h k = branch (λ (r : ℕ). r ≤ m) (test q) (λ e. h) (λ e.
-      let ne : q ≢ m = (λ f. true≢false (sym (rw f k) ∙ e)) in
-      first-least n (suc q) m (omega arith) k)
+  first-least zero q m h e = h
+  first-least (suc n) q m h e = branch (λ r. r ≤ m) (test q) (λ t. h)
+      (λ f. ⊎-elim (λ v. absurd (true≢false (sym e ∙ ap test (sym v) ∙ f))) (λ l. first-least n (suc q) m l e) (eq-or-lt-of-le h))
+
+  pub first-high : (n q : ℕ) → firstFrom test n q ≤ q + n
+  unfolding firstFrom
+  first-high zero q = omega arith
+  first-high (suc n) q = branch (λ r. r ≤ q + suc n) (test q) (λ t. omega arith) (λ f. omega (arith, first-high n (suc q)))
 
   pub first-passes : (n q : ℕ) → test (q + n) ≡ true → test (firstFrom test n q) ≡ true
   unfolding firstFrom
-  first-passes zero q k = rw add-zero at k
-  first-passes (suc n) q k = branch (λ (r : ℕ). test r ≡ true) (test q) (λ e. e) (λ e.
-      first-passes n (suc q) (rw (let z : q + suc n ≡ suc q + n = omega arith in z) at k))
+  first-passes zero q e = rw add-zero at e
+  first-passes (suc n) q e = branch (λ r. test r ≡ true) (test q) (λ t. t)
+      (λ f. first-passes n (suc q) (ap test (suc-add q n ∙ sym (add-suc q n)) ∙ e))
+
+  pub first-same : (other : ℕ → Bool) (n q : ℕ) → ((m : ℕ) → q ≤ m → test m ≡ other m) →
+      firstFrom test n q ≡ firstFrom other n q
+  unfolding firstFrom
+  first-same other zero q h = refl
+  first-same other (suc n) q h =
+      ap₂ (λ b r. cond b q r) (h q (omega arith)) (first-same other n (suc q) (λ m l. h m (omega arith)))

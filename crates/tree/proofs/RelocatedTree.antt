@@ -9,7 +9,7 @@ use Rattle.rules.specs.Table.{Cells, free, next, lookup}
 use Rattle.rules.specs.Insertion.{renamed}
 use Rattle.tree.specs.Soundness.{Held, aLeaf, anInner, Fruit, Sits, Tree, Deep, Sound}
 use Rattle.tree.proofs.Choices.{same?, some?}
-use Rattle.tree.proofs.Steps.{next-step, lookup-row}
+use Rattle.tree.proofs.Steps.{next-step, lookup-same}
 use Rattle.tree.proofs.Trees.{bare-step}
 use Rattle.tree.proofs.Relocation.{Fit, M, ρ, baseTo, s-pos, child-far, to-child, to-other, used-kept, low-kept, parent-kept, to-zero, to-one, to-pos, moved-at, moved-from, to-inj, base-other, base-after, base-before, step-to, next-moved, node-moved, row-moved}
 
@@ -42,7 +42,13 @@ module _ {P : Profile} {T : Cells} {size : ℕ} (w : Tree P T size) {s b q : ℕ
       go : Was u → Sits P (M w m) u
       go r =
           let g = w .sits (r .before) (r .used) in
-          record { code = g .code; step = rw (r .content, ← r .place) (step-to w m (g .step)); low = g .low; high = g .high; held = rw (r .content) (held-moved (g .code) (r .before) (g .held)) }
+          record {
+            code = g .code;
+            step = rw (r .content, ← r .place) (step-to w m (g .step));
+            low = g .low;
+            high = g .high;
+            held = rw (r .content) (held-moved (g .code) (r .before) (g .held));
+          }
 
   renamed-free : (t : ℕ) → T t ≡ free → t ≢ s → renamed T s b q t ≡ free
   unfolding renamed
@@ -57,7 +63,8 @@ module _ {P : Profile} {T : Cells} {size : ℕ} (w : Tree P T size) {s b q : ℕ
     where
       at : (t : ℕ) → ρ w m t ≡ u → M w m u ≡ renamed T s b q t → M w m u ≡ free
       at t e f =
-          let n = to-inj w m (T t .parent) 0 (parent-kept w m t) (low-kept w m 0 (omega arith)) (sym (ap (λ x. x .parent) f) ∙ z ∙ sym (to-zero w m)) in
+          let v : ρ w m (T t .parent) ≡ ρ w m 0 = sym (ap (λ x. x .parent) f) ∙ z ∙ sym (to-zero w m) in
+          let n = to-inj w m (T t .parent) 0 (parent-kept w m t) (low-kept w m 0 (omega arith)) v in
           let x : T t ≡ free = w .blank t (λ v. d (sym e ∙ ap (ρ w m) v ∙ to-one w m)) n in
           f ∙ renamed-free t x (λ v. omega (arith, ap (λ x. x .base) x, m .old, m .held, ap (λ (x : ℕ). T x .base) v))
 
@@ -81,21 +88,23 @@ module _ {P : Profile} {T : Cells} {size : ℕ} (w : Tree P T size) {s b q : ℕ
           omega (arith, holds (r .before - b) (rw z e), to-child w m (r .before) e, r .place))
           (λ d. omega (arith, w .inside (r .before) (r .used), to-other w m (r .before) d, r .place, big)) (same? (T (r .before) .parent) s)
 
+  to-next : (t c : ℕ) → 1 ≤ T t .parent → 1 ≤ next T t c → 1 ≤ next (M w m) (ρ w m t) c
+  to-next t c u n = rw (next-moved w m t c (used-kept w m t u)) (to-pos w m (next T t c) n)
+
   pub fruit-moved : Fruit T 0 → Fruit (M w m) 0
   unfolding renamed
-  fruit-moved f u d h k = at (f (r .before) (λ v. d (sym (r .place) ∙ ap (ρ w m) v ∙ to-zero w m)) (r .used) (base-before w m (r .before) (rw (r .content) at k)))
-    where
-      r : Was u
-      r = was u h
-
-      at : (c : ℕ) × (1 ≤ next T (r .before) c) → (c : ℕ) × (1 ≤ next (M w m) u c)
-      at (c, n) = (c, subst (λ (x : ℕ). 1 ≤ next (M w m) x c) (r .place) (rw (next-moved w m (r .before) c (used-kept w m (r .before) (r .used))) (to-pos w m (next T (r .before) c) n)))
+  fruit-moved f u d h k =
+      let r = was u h in
+      let ne : r .before ≢ 0 = (λ v. d (sym (r .place) ∙ ap (ρ w m) v ∙ to-zero w m)) in
+      let (c, n) = f (r .before) ne (r .used) (base-before w m (r .before) (rw (r .content) at k)) in
+      (c, subst (λ (x : ℕ). 1 ≤ next (M w m) x c) (r .place) (to-next (r .before) c (r .used) n))
 
   pub lookup-moved : (key : List ℕ) → lookup P (M w m) key ≡ lookup P T key
-  lookup-moved key = lookup-row (M w m) P key ∙ row-moved w m (reverse (labels P key)) ∙ sym (lookup-row T P key)
+  lookup-moved key = lookup-same T (M w m) P key (row-moved w m (reverse (labels P key)))
 
   -- The table stays sound, if s has a child (a root without children has base 1, wherever it is sent).
-  pub sound-moved : Fruit T 0 → Deep P T → (c : ℕ) → 1 ≤ next T s c → (size′ : ℕ) → Tree P (M w m) size′ → Sound P (record { cells = M w m; size = size′ })
+  pub sound-moved : Fruit T 0 → Deep P T → (c : ℕ) → 1 ≤ next T s c → (size′ : ℕ) → Tree P (M w m) size′ →
+      Sound P (record { cells = M w m; size = size′ })
   sound-moved f deep c n size′ v = record {
     tree = v;
     fruit = fruit-moved f;

@@ -13,7 +13,7 @@ use Rattle.rules.specs.Insertion.{to, renamed, moved}
 use Rattle.tree.specs.Soundness.{Step, rowAt, Tree}
 use Rattle.tree.proofs.Choices.{same?, some?}
 use Rattle.tree.proofs.Steps.{step-next, step?}
-use Rattle.tree.proofs.Trees.{zero-parent, based-pos, live, step-used, no-loop}
+use Rattle.tree.proofs.Trees.{zero-parent, based-pos, live, step-used, no-loop, path-of}
 
 -- q is a base to which the children of s, whose base is b, can move.
 pub record Fit (T : Cells) (s b q : ℕ) : Type 0 where
@@ -97,7 +97,7 @@ module _ {P : Profile} {T : Cells} {size : ℕ} (w : Tree P T size) {s b q : ℕ
   to-pos t h = ⊎-elim (λ e. rw (to-child t e) (omega (arith, m .new))) (λ d. rw (to-other t d) h) (same? (T t .parent) s)
 
   pub s-alone : T s .parent ≢ s
-  s-alone = ⊎-elim (λ e u. omega (arith, w .root-parent, s-pos, rw e at u)) (λ h. let (r, e) = w .reach s h in no-loop w r e s-pos) (live w s s-based)
+  s-alone = let (r, e) = path-of w s s-based in no-loop w r e s-pos
 
   pub s-stays : ρ s ≡ s
   s-stays = to-other s s-alone

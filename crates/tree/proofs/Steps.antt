@@ -1,5 +1,5 @@
 -- The step from a cell to its child as a relation, and the two ways of walking. Nothing later opens `next`. Assumes nothing.
-use mathlib.Core.Path.{_≡_, refl, sym, ap}
+use mathlib.Core.Path.{_≡_, refl, sym, ap, _∙_}
 use mathlib.Core.Logic.{_≢_, _⊎_, inl, inr, ⊎-elim}
 use mathlib.Core.Bool.{and-false}
 use mathlib.Core.List.{List, [], _∷_, reverse, reverseAux}
@@ -32,7 +32,8 @@ module _ (T : Cells) where
   unfolding next
   step? s c = go (some? (T s .base)) (same? (T (T s .base + c) .parent) s)
     where
-      go : (T s .base ≡ 0) ⊎ (1 ≤ T s .base) → (T (T s .base + c) .parent ≡ s) ⊎ (T (T s .base + c) .parent ≢ s) → Step T s c (next T s c) ⊎ (next T s c ≡ 0)
+      go : (T s .base ≡ 0) ⊎ (1 ≤ T s .base) → (T (T s .base + c) .parent ≡ s) ⊎ (T (T s .base + c) .parent ≢ s) →
+          Step T s c (next T s c) ⊎ (next T s c ≡ 0)
       go (inl e) k = inr (rw (le-ltb 0 (T s .base) (omega arith)))
       go (inr h) (inl e) = inl (rw (lt-ltb _ _ h, eq-eqb _ _ e) (record { based = h; at = refl; back = e }))
       go (inr h) (inr d) = inr (rw (ne-eqb _ _ d, and-false))
@@ -53,3 +54,8 @@ module _ (T : Cells) where
   pub lookup-row : (P : Profile) (key : List ℕ) → lookup P T key ≡ rowAt T (reverse (labels P key))
   unfolding lookup node
   lookup-row P key = ap (λ (t : ℕ). T t .row) (walk-node (labels P key) [])
+
+-- Lookups are the same where rows are.
+pub lookup-same : (T R : Cells) (P : Profile) (key : List ℕ) → rowAt R (reverse (labels P key)) ≡ rowAt T (reverse (labels P key)) →
+    lookup P R key ≡ lookup P T key
+lookup-same T R P key e = lookup-row R P key ∙ e ∙ sym (lookup-row T P key)

@@ -48,7 +48,8 @@ module _ (P : Profile) where
   }
 
   -- The first step moves, and the others are taken from where it leads.
-  goes-on : (n : ℕ) (t : Table) (m : Moves) → 1 ≤ compactionStep P t .count → Taken P n (compactionStep P t .table) m → Taken P (suc n) t (record { table = m .table; count = suc (m .count) })
+  goes-on : (n : ℕ) (t : Table) (m : Moves) → 1 ≤ compactionStep P t .count → Taken P n (compactionStep P t .table) m →
+      Taken P (suc n) t (record { table = m .table; count = suc (m .count) })
   unfolding after
   goes-on n t m h k = record {
     most = omega (arith, k .most);
@@ -64,19 +65,27 @@ module _ (P : Profile) where
 
   pub steps-taken : (n : ℕ) (t : Table) → Taken P n t (compactionSteps P n t)
   unfolding compactionSteps after
-  steps-taken zero t = record { most = omega arith; each = λ i h. absurd (omega arith); full = λ e. refl; stopped = λ h. absurd (omega arith); early = λ h. absurd (omega arith) }
+  steps-taken zero t = record {
+    most = omega arith;
+    each = λ i h. absurd (omega arith);
+    full = λ e. refl;
+    stopped = λ h. absurd (omega arith);
+    early = λ h. absurd (omega arith);
+  }
   steps-taken (suc n) t = branch (Taken P (suc n) t) (eqb (compactionStep P t .count) 0)
       (λ e. stops n t (eqb-true _ _ e)) (λ e. goes-on n t _ (not-zero _ e) (steps-taken n (compactionStep P t .table)))
 
   -- Fewer than n moves are made exactly if, before n are, a step moves nothing.
-  pub fewer-exactly : (n : ℕ) (t : Table) → (compactionSteps P n t .count < n) ↔ ((i : ℕ) × (i < n) × (compactionStep P (after P i t) .count ≡ 0))
+  pub fewer-exactly : (n : ℕ) (t : Table) →
+      (compactionSteps P n t .count < n) ↔ ((i : ℕ) × (i < n) × (compactionStep P (after P i t) .count ≡ 0))
   fewer-exactly n t = (λ h. (compactionSteps P n t .count, h, k .stopped h), fewer)
     where
       k : Taken P n t (compactionSteps P n t)
       k = steps-taken n t
 
       fewer : (i : ℕ) × (i < n) × (compactionStep P (after P i t) .count ≡ 0) → compactionSteps P n t .count < n
-      fewer (i, h, z) = ⊎-elim (λ e. absurd (omega (arith, k .each i (omega arith)))) (λ d. omega (arith, k .most)) (same? (compactionSteps P n t .count) n)
+      fewer (i, h, z) = ⊎-elim
+          (λ e. absurd (omega (arith, k .each i (omega arith)))) (λ d. omega (arith, k .most)) (same? (compactionSteps P n t .count) n)
 
   -- ---- compaction, which starts from the trimmed table
 
@@ -84,6 +93,7 @@ module _ (P : Profile) where
   unfolding compacted
   compacted-taken n t = steps-taken n (trimmed (t .cells) (t .size))
 
-  pub compacted-fewer : (n : ℕ) (t : Table) → (compacted P n t .count < n) ↔ ((i : ℕ) × (i < n) × (compactionStep P (after P i (trimmed (t .cells) (t .size))) .count ≡ 0))
+  pub compacted-fewer : (n : ℕ) (t : Table) →
+      (compacted P n t .count < n) ↔ ((i : ℕ) × (i < n) × (compactionStep P (after P i (trimmed (t .cells) (t .size))) .count ≡ 0))
   unfolding compacted
   compacted-fewer n t = fewer-exactly n (trimmed (t .cells) (t .size))

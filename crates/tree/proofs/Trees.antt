@@ -2,24 +2,20 @@
 -- nothing.
 use mathlib.Core.Path.{_≡_, refl, sym, ap, ap₂, _∙_, subst}
 use mathlib.Core.Logic.{_≢_, _⊎_, inl, inr, ⊎-elim}
-use mathlib.Core.Bool.{Bool, true, false, _||_, true≢false}
+use mathlib.Core.Bool.{true, false}
 use mathlib.Core.List.{List, [], _∷_, reverseAux}
 use Prim.Native.Nat.{ℕ, _≤_, _<_}
 use native.Mathlib.Omega.{arith}
-use borrow.Author.Tests.{lt-ltb, ne-eqb, leb-true}
+use borrow.Author.Tests.{leb-true}
 use lib.ListN.{length, length-reverseAux}
-use lib.Dec.{eqb}
 use Rattle.rules.specs.Ranges.{within}
 use Rattle.rules.specs.WhatTheIndexDoes.{Profile, isRow}
 use Rattle.rules.specs.Table.{Content, Cells, free, used, next, walk, node}
 use Rattle.rules.proofs.Ranges.{both}
 use Rattle.tree.specs.Soundness.{Step, Held, aLeaf, anInner, Fruit, Bare, Tree}
 use Rattle.tree.proofs.Choices.{same?, some?}
+use Rattle.tree.proofs.UsedCells.{parentless-unused}
 use Rattle.tree.proofs.Steps.{parent-cell, base-cell, step-next, next-step, walk-node}
-
-or-true : (b : Bool) → (b || true) ≡ true
-or-true true = refl
-or-true false = refl
 
 -- ---- what a cell holds
 
@@ -48,29 +44,15 @@ module _ {c : ℕ} {x : Content} where
   held-end (aLeaf e z r) h = row-low r
   held-end (anInner l b z) h = absurd (omega arith)
 
--- ---- used cells
-
-module _ (T : Cells) (t : ℕ) where
-  pub parent-used : 1 ≤ T t .parent → used T t ≡ true
-  unfolding used
-  parent-used h = rw (lt-ltb _ _ h) (or-true (eqb t 1))
-
-  pub unused-parent : used T t ≡ false → T t .parent ≡ 0
-  unfolding used
-  unused-parent e = ⊎-elim (λ z. z) (λ h. absurd (true≢false (sym (parent-used h) ∙ e))) (some? (T t .parent))
-
-  pub parent-unused : t ≢ 1 → T t .parent ≡ 0 → used T t ≡ false
-  unfolding used
-  parent-unused d z = rw (ne-eqb _ _ d, z)
-
 module _ {P : Profile} {T : Cells} {size : ℕ} (w : Tree P T size) where
   -- ---- cells
 
-  -- Past the size every cell is unused.
+  -- Past the size no cell holds anything.
+  pub past-free : (t : ℕ) → size < t → T t ≡ free
+  past-free t h = w .blank t (λ e. omega (arith, w .some)) (⊎-elim (λ z. z) (λ u. absurd (omega (arith, w .inside t u))) (some? (T t .parent)))
+
   pub past-unused : (t : ℕ) → size < t → used T t ≡ false
-  past-unused t h =
-      let z : T t .parent ≡ 0 = ⊎-elim (λ z. z) (λ u. absurd (omega (arith, w .inside t u))) (some? (T t .parent)) in
-      parent-unused T t (λ e. omega (arith, w .some)) z
+  past-unused t h = parentless-unused T t (λ e. omega (arith, w .some)) (ap (λ x. x .parent) (past-free t h))
 
   pub zero-parent : T 0 .parent ≡ 0
   zero-parent = ap (λ x. x .parent) (w .nowhere)
