@@ -74,7 +74,13 @@ module _ {P : Profile} {T : Cells} {size : ℕ} (w : Tree P T size) {s c : ℕ} 
       record { based = rw e (a .place .based); at = rw e; back = ap (λ y. y .parent) (update-at T put x) ∙ a .under }
 
   put-sits : Sits P Put put
-  put-sits = record { code = c; step = rw (put-step .back) put-step; low = a .place .low; high = a .place .high; held = rw (update-at T put x) (a .held) }
+  put-sits = record {
+    code = c;
+    step = rw (put-step .back) put-step;
+    low = a .place .low;
+    high = a .place .high;
+    held = rw (update-at T put x) (a .held);
+  }
 
   pub put-tree : Tree P Put (max size put)
   put-tree = tree-more put-one (max size put) (omega arith) (omega arith) put-sits w
