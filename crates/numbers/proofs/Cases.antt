@@ -1,7 +1,8 @@
--- Cases of two numbers. Assumes nothing.
-use mathlib.Core.Logic.{_⊎_, inl, inr}
-use Prim.Native.Nat.{ℕ, _≤_, _<_}
-use native.Mathlib.Decide.{decLe}
+-- Cases of numbers. Assumes nothing.
+use mathlib.Core.Path.{_≡_, refl}
+use mathlib.Core.Logic.{_≢_, _⊎_, inl, inr}
+use Prim.Native.Nat.{ℕ, zero, suc, _≤_, _<_}
+use native.Mathlib.Decide.{decLe, ℕ-discrete}
 use native.Mathlib.Omega.{arith}
 
 -- One number is below the other or not.
@@ -11,3 +12,16 @@ lt-or-ge a b = go (decLe b a)
     go : Dec (b ≤ a) → (a < b) ⊎ (b ≤ a)
     go (yes h) = inr h
     go (no d) = inl (omega arith)
+
+-- Two numbers are the same or not.
+pub same? : (m n : ℕ) → (m ≡ n) ⊎ (m ≢ n)
+same? m n = go (ℕ-discrete m n)
+  where
+    go : Dec (m ≡ n) → (m ≡ n) ⊎ (m ≢ n)
+    go (yes e) = inl e
+    go (no d) = inr d
+
+-- A number is 0 or not.
+pub some? : (n : ℕ) → (n ≡ 0) ⊎ (1 ≤ n)
+some? zero = inl refl
+some? (suc n) = inr (omega arith)

@@ -1,8 +1,8 @@
 -- The alphabet: its two functions undo each other. Proved once over the alphabet's size, by a test that is computed at each
 -- character and each code. Assumes nothing.
-use mathlib.Core.Path.{_≡_, refl, sym}
+use mathlib.Core.Path.{_≡_, refl}
 use mathlib.Core.Logic.{⊎-elim}
-use mathlib.Core.Bool.{Bool, true, false, _&&_, _||_, true≢false}
+use mathlib.Core.Bool.{Bool, true, _&&_, _||_}
 use Prim.Native.Nat.{ℕ, suc, _-_, _≤_}
 use native.Mathlib.Omega.{arith}
 use lib.Dec.{leb, ltb, eqb}
@@ -10,11 +10,8 @@ use borrow.Author.Tests.{le-ltb, ne-eqb, eqb-true, leb-true}
 use Rattle.numbers.proofs.Cases.{lt-or-ge}
 use Rattle.rules.specs.Ranges.{within, eachTo}
 use Rattle.rules.specs.WhatTheIndexDoes.{codeOf, characterOf, Code, Profile, document01, RoundTrip}
-use Rattle.rules.proofs.Ranges.{both, above, each-to}
-
-or-right : (s t : Bool) → s ≡ false → (s || t) ≡ true → t ≡ true
-or-right true t e h = absurd (true≢false e)
-or-right false t e h = h
+use Rattle.rules.proofs.Choices.{both}
+use Rattle.rules.proofs.Ranges.{above, each-to}
 
 -- A character that has a code: the code is a label's, and leads back.
 abbrev pub backTest : Profile → ℕ → Bool
@@ -31,18 +28,18 @@ module _ (P : Profile) (n : ℕ) (past : (b : ℕ) → n ≤ b → P .code b ≡
   coded b h = ⊎-elim (λ l. facts (tested l)) (λ g. absurd (omega (arith, past b g))) (lt-or-ge b n)
     where
       tested : suc b ≤ n → backTest P b ≡ true
-      tested l = rw (let e : suc b - 1 ≡ b = omega arith in e) at (each-to n (λ k. backTest P (k - 1)) back (suc b) (omega arith) l)
+      tested l = rw (let e : suc b - 1 ≡ b = omega arith in e) at (each-to (λ k. backTest P (k - 1)) n back (suc b) (omega arith) l)
 
       facts : backTest P b ≡ true → (P .character (P .code b) ≡ b) × (2 ≤ P .code b) × (P .code b ≤ P .greatest)
       facts t =
-          let (x, y) = both (eqb (P .character (P .code b)) b) _ (or-right (eqb (P .code b) 0) _ (ne-eqb (P .code b) 0 (λ e. omega arith)) t) in
+          let (x, y) = both (eqb (P .character (P .code b)) b) _ (rw (ne-eqb (P .code b) 0 (λ e. omega arith)) at t) in
           let (y₁, y₂) = both (leb 2 (P .code b)) (leb (P .code b) (P .greatest)) y in
           (eqb-true (P .character (P .code b)) b x, leb-true 2 (P .code b) y₁, leb-true (P .code b) (P .greatest) y₂)
 
   pub round-trip : RoundTrip P
   round-trip = record {
     back = λ b h. coded b h .0;
-    forth = λ c low high. eqb-true (P .code (P .character c)) c (or-right (ltb c 2) _ (le-ltb c 2 low) (each-to (P .greatest) (forthTest P) forth c (omega arith) high));
+    forth = λ c low high. eqb-true (P .code (P .character c)) c (rw (le-ltb c 2 low) at (each-to (forthTest P) (P .greatest) forth c (omega arith) high));
     range = λ b. ⊎-elim (λ z. omega arith) (λ h. coded b h .2) (lt-or-ge (P .code b) 1);
     unmarked = λ b h. coded b h .1;
   }

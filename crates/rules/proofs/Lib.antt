@@ -1,3 +1,4 @@
 -- What the proofs of several functions use, and laws for the crates above.
+pub mod Choices
 pub mod Ranges
 pub mod Codes

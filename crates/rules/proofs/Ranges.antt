@@ -1,18 +1,16 @@
--- Laws of the tests over ranges. Assumes nothing.
-use mathlib.Core.Path.{_≡_, refl, sym, ap, _∙_}
+-- Laws of the tests over ranges, and of the first number that passes a test. Assumes nothing.
+use mathlib.Core.Path.{_≡_, refl, sym, ap, ap₂, _∙_}
 use mathlib.Core.Logic.{⊎-elim}
-use mathlib.Core.Bool.{Bool, true, false, _&&_, true≢false, and-false}
-use Prim.Native.Nat.{ℕ, zero, suc, _≤_, _<_}
-use native.Mathlib.Nat.{eq-or-lt-of-le, le-of-suc-le-suc}
+use mathlib.Core.Bool.{Bool, true, false, cond, true≢false, and-false, or-true}
+use Prim.Native.Nat.{ℕ, zero, suc, _+_, _≤_, _<_}
+use native.Mathlib.Nat.{add-zero, add-suc, suc-add, eq-or-lt-of-le, le-of-suc-le-suc}
 use native.Mathlib.Omega.{arith}
 use lib.Dec.{leb}
-use borrow.Author.Tests.{le-leb, lt-leb}
-use Rattle.rules.specs.Ranges.{within, eachTo}
+use borrow.Author.Tests.{le-leb, lt-leb, leb-true}
+use Rattle.rules.specs.Ranges.{within, eachTo, someTo, firstFrom}
+use Rattle.rules.proofs.Choices.{branch, both, either}
 
--- Both of two tests pass.
-pub both : (s t : Bool) → (s && t) ≡ true → (s ≡ true) × (t ≡ true)
-both true t e = (refl, e)
-both false t e = absurd (true≢false (sym e))
+-- ---- a range
 
 module _ (low high n : ℕ) where
   pub inside : low ≤ n → n ≤ high → within low high n ≡ true
@@ -27,10 +25,64 @@ module _ (low high n : ℕ) where
   unfolding within
   above p = rw (lt-leb n high p, and-false)
 
--- A test that each number from 1 to k passes, at one of them.
-pub each-to : (k : ℕ) (test : ℕ → Bool) → eachTo k test ≡ true → (i : ℕ) → 1 ≤ i → i ≤ k → test i ≡ true
-unfolding eachTo
-each-to zero test e i low high = absurd (omega arith)
-each-to (suc k) test e i low high =
-    let (now, more) = both (test (suc k)) (eachTo k test) e in
-    ⊎-elim (λ v. ap test v ∙ now) (λ lt. each-to k test more i low (le-of-suc-le-suc lt)) (eq-or-lt-of-le high)
+  pub within-is : within low high n ≡ true → (low ≤ n) × (n ≤ high)
+  unfolding within
+  within-is e = let (l, h) = both (leb low n) (leb n high) e in (leb-true low n l, leb-true n high h)
+
+-- ---- each, some, the first
+
+module _ (test : ℕ → Bool) where
+  pub each-to : (k : ℕ) → eachTo k test ≡ true → (i : ℕ) → 1 ≤ i → i ≤ k → test i ≡ true
+  unfolding eachTo
+  each-to zero e i low high = absurd (omega arith)
+  each-to (suc k) e i low high =
+      let (now, more) = both (test (suc k)) (eachTo k test) e in
+      ⊎-elim (λ v. ap test v ∙ now) (λ lt. each-to k more i low (le-of-suc-le-suc lt)) (eq-or-lt-of-le high)
+
+  pub to-each : (k : ℕ) → ((i : ℕ) → 1 ≤ i → i ≤ k → test i ≡ true) → eachTo k test ≡ true
+  unfolding eachTo
+  to-each zero h = refl
+  to-each (suc k) h = rw (h (suc k) (omega arith) (omega arith)) (to-each k (λ i low high. h i low (omega arith)))
+
+  pub some-to : (k : ℕ) → someTo k test ≡ true → (i : ℕ) × (1 ≤ i) × (i ≤ k) × (test i ≡ true)
+  unfolding someTo
+  some-to zero e = absurd (true≢false (sym e))
+  some-to (suc k) e = ⊎-elim
+      (λ t. (suc k, omega arith, omega arith, t))
+      (λ t. let (i, low, high, p) = some-to k t in (i, low, omega arith, p))
+      (either (test (suc k)) (someTo k test) e)
+
+  pub to-some : (k i : ℕ) → 1 ≤ i → i ≤ k → test i ≡ true → someTo k test ≡ true
+  unfolding someTo
+  to-some zero i low high e = absurd (omega arith)
+  to-some (suc k) i low high e =
+      ⊎-elim (λ v. rw (← v, e)) (λ l. rw (to-some k i low (omega arith) e, or-true)) (eq-or-lt-of-le high)
+
+  pub first-low : (n q : ℕ) → q ≤ firstFrom test n q
+  unfolding firstFrom
+  first-low zero q = omega arith
+  first-low (suc n) q = branch (λ r. q ≤ r) (test q) (λ t. omega arith) (λ f. omega (arith, first-low n (suc q)))
+
+  pub first-least : (n q m : ℕ) → q ≤ m → test m ≡ true → firstFrom test n q ≤ m
+  unfolding firstFrom
+  first-least zero q m h e = h
+  first-least (suc n) q m h e = branch (λ r. r ≤ m) (test q) (λ t. h)
+      (λ f. ⊎-elim (λ v. absurd (true≢false (sym e ∙ ap test (sym v) ∙ f))) (λ l. first-least n (suc q) m l e) (eq-or-lt-of-le h))
+
+  pub first-high : (n q : ℕ) → firstFrom test n q ≤ q + n
+  unfolding firstFrom
+  first-high zero q = omega arith
+  first-high (suc n) q = branch (λ r. r ≤ q + suc n) (test q) (λ t. omega arith) (λ f. omega (arith, first-high n (suc q)))
+
+  pub first-passes : (n q : ℕ) → test (q + n) ≡ true → test (firstFrom test n q) ≡ true
+  unfolding firstFrom
+  first-passes zero q e = rw add-zero at e
+  first-passes (suc n) q e = branch (λ r. test r ≡ true) (test q) (λ t. t)
+      (λ f. first-passes n (suc q) (ap test (suc-add q n ∙ sym (add-suc q n)) ∙ e))
+
+  pub first-same : (other : ℕ → Bool) (n q : ℕ) → ((m : ℕ) → q ≤ m → test m ≡ other m) →
+      firstFrom test n q ≡ firstFrom other n q
+  unfolding firstFrom
+  first-same other zero q h = refl
+  first-same other (suc n) q h =
+      ap₂ (λ b r. cond b q r) (h q (omega arith)) (first-same other n (suc q) (λ m l. h m (omega arith)))

@@ -8,15 +8,16 @@ use Prim.Native.Nat.{ℕ, _≤_}
 use native.Mathlib.Omega.{arith}
 use lib.Dec.{ltb}
 use borrow.Author.Tests.{ltb-true, ltb-false, leb-true}
+use Rattle.numbers.proofs.Cases.{some?}
 use Rattle.rules.specs.WhatTheIndexDoes.{Profile, RoundTrip, isIdentifier, isRow}
 use Rattle.rules.specs.Table.{Table, lookup}
 use Rattle.rules.specs.Insertion.{inserted}
 use Rattle.rules.specs.DeletionAndCompaction.{deleted, compacted}
 use Rattle.rules.specs.Listing.{Entry, entries}
 use Rattle.rules.specs.Commands.{Command, insert, delete, find, compact, Outcome, keyAllowed, numberAllowed, carriedOut, answered}
+use Rattle.rules.proofs.Choices.{branch₂}
 use Rattle.tree.specs.Soundness.{Sound}
 use Rattle.tree.specs.ThePlainList.{rowIn, without, told, Reply, heard, replied, history}
-use Rattle.tree.proofs.Choices.{some?, branch₂}
 use Rattle.tree.proofs.Compaction.{same-lookup, compacted-same}
 use Rattle.tree.proofs.Listing.{listed-live, live-listed}
 use Rattle.tree.proofs.OneIdentifier.{Now, same-list?}

@@ -5,12 +5,12 @@ use mathlib.Core.Bool.{true, false}
 use mathlib.Core.List.{List, [], _∷_, reverseAux}
 use Prim.Native.Nat.{ℕ, _+_, _≤_, max}
 use native.Mathlib.Omega.{arith}
+use Rattle.numbers.proofs.Cases.{same?}
 use Rattle.rules.specs.WhatTheIndexDoes.{END, Profile, isRow}
 use Rattle.rules.specs.Table.{Content, Cells, Table, free, inner, leaf, update, used, node}
 use Rattle.rules.specs.Placement.{placed}
 use Rattle.rules.specs.Insertion.{grow}
 use Rattle.tree.specs.Soundness.{Step, Held, aLeaf, anInner, rowAt, Fruit, Sits, Tree}
-use Rattle.tree.proofs.Choices.{same?}
 use Rattle.tree.proofs.UsedCells.{unused-parent}
 use Rattle.tree.proofs.Steps.{step-next}
 use Rattle.tree.proofs.Trees.{past-unused, based-pos, one-path}

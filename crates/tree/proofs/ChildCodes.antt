@@ -8,11 +8,12 @@ use native.Mathlib.Omega.{arith}
 use lib.ListN.{length}
 use lib.Dec.{eqb}
 use borrow.Author.Tests.{eq-eqb, eqb-true, eqb-false}
+use Rattle.numbers.proofs.Cases.{same?, some?}
 use Rattle.rules.specs.WhatTheIndexDoes.{Profile}
 use Rattle.rules.specs.Table.{Cells, next, childCodes, childless}
+use Rattle.rules.proofs.Choices.{branch}
 use Rattle.tree.specs.Members.{Among}
 use Rattle.tree.specs.Soundness.{Step, Tree}
-use Rattle.tree.proofs.Choices.{same?, some?, branch}
 use Rattle.tree.proofs.Steps.{step-next, next-baseless}
 use Rattle.tree.proofs.Trees.{step-low, step-high, step-far}
 

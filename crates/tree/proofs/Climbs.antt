@@ -11,12 +11,12 @@ use lib.ListN.{length}
 use lib.IntN.{ℤ}
 use borrow.Author.Tests.{eq-eqb, ne-eqb, eqb-true}
 use Rattle.numbers.specs.Stored.{plusAt}
+use Rattle.numbers.proofs.Cases.{same?, some?}
 use Rattle.rules.specs.WhatTheIndexDoes.{Profile}
 use Rattle.rules.specs.Table.{Cells, next, node}
 use Rattle.rules.specs.ASoundTable.{home}
 use Rattle.rules.specs.Rendering.{readCells}
 use Rattle.tree.specs.Soundness.{Held, aLeaf, anInner, rowAt, Fruit, Sits, Tree, Deep}
-use Rattle.tree.proofs.Choices.{same?, some?}
 use Rattle.tree.proofs.Steps.{step-next, next-step}
 use Rattle.tree.proofs.Trees.{row-low, used-pos, based-pos, step-used, step-far, last-step, one-path}
 use Rattle.tree.proofs.Elements.{read-parent}

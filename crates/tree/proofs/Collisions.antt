@@ -7,14 +7,15 @@ use Prim.Native.Nat.{ℕ, zero, suc, _+_, _≤_, max}
 use native.Mathlib.Omega.{arith}
 use lib.ListN.{length}
 use lib.Dec.{eqb}
+use Rattle.numbers.proofs.Cases.{same?}
 use Rattle.rules.specs.WhatTheIndexDoes.{Profile}
 use Rattle.rules.specs.Table.{Cells, used, next, node, childCodes}
 use Rattle.rules.specs.Placement.{greatestOf, placed}
 use Rattle.rules.specs.Insertion.{relocate, Course, grow}
+use Rattle.rules.proofs.Choices.{branch}
 use Rattle.tree.specs.Members.{Among, Once}
 use Rattle.tree.specs.Moved.{Changed, Moved}
 use Rattle.tree.specs.Soundness.{Tree}
-use Rattle.tree.proofs.Choices.{same?, branch}
 use Rattle.tree.proofs.Steps.{step-next, next-step}
 use Rattle.tree.proofs.Trees.{last-step, one-path}
 use Rattle.tree.proofs.Placement.{greatest-least}

@@ -11,9 +11,8 @@ use Rattle.rules.specs.Table.{Table, used, largestUsed, next, lookup, childCode
 use Rattle.rules.specs.Placement.{placed}
 use Rattle.rules.specs.Insertion.{relocate}
 use Rattle.rules.specs.DeletionAndCompaction.{Moves, trimmed, compactionStep, compactionSteps, compacted}
-use Rattle.rules.proofs.Ranges.{both}
+use Rattle.rules.proofs.Choices.{branch, both}
 use Rattle.tree.specs.Soundness.{rowAt, Sound}
-use Rattle.tree.proofs.Choices.{branch}
 use Rattle.tree.proofs.Steps.{step-next, lookup-same}
 use Rattle.tree.proofs.Relocation.{s-pos, row-moved}
 use Rattle.tree.proofs.RelocatedTree.{tree-moved, sound-moved}

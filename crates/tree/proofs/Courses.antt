@@ -10,9 +10,9 @@ use borrow.Author.Tests.{eqb-true}
 use Rattle.rules.specs.WhatTheIndexDoes.{Profile, isRow}
 use Rattle.rules.specs.Table.{Cells, used, next, node}
 use Rattle.rules.specs.Insertion.{relocate, Course, grow, extend, insertFrom}
+use Rattle.rules.proofs.Choices.{branch, not-zero, neither}
 use Rattle.tree.specs.Moved.{Moved}
 use Rattle.tree.specs.Soundness.{Held, rowAt, Fruit, Tree}
-use Rattle.tree.proofs.Choices.{not-zero, branch, neither}
 use Rattle.tree.proofs.UsedCells.{unused-parent}
 use Rattle.tree.proofs.Steps.{next-step}
 use Rattle.tree.proofs.Trees.{step-held, held-onward, held-end, fruit-weak}

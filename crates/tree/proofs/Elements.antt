@@ -12,12 +12,11 @@ use lib.IntN.{ℤ}
 use borrow.Author.Tests.{le-leb, lt-leb, eq-eqb, ne-eqb}
 use Rattle.numbers.specs.Stored.{positive, negative, plusOf, minusOf, plusAt, minusAt}
 use Rattle.numbers.proofs.Laws.{plus-negative, minus-negative}
-use Rattle.numbers.proofs.Cases.{lt-or-ge}
+use Rattle.numbers.proofs.Cases.{lt-or-ge, same?, some?}
 use Rattle.rules.specs.WhatTheIndexDoes.{Profile}
 use Rattle.rules.specs.Table.{Content, Cells, Table, used}
 use Rattle.rules.specs.Rendering.{Kind, baseHolds, baseOf, checkOf, elements, renderBase, renderCheck, readCells, readTable}
 use Rattle.tree.specs.Soundness.{Tree, Sound}
-use Rattle.tree.proofs.Choices.{same?, some?}
 use Rattle.tree.proofs.Trees.{held-leaf, row-used, past-unused, past-free}
 use Rattle.tree.proofs.UsedCells.{parent-used, parentless-unused, unused-other}
 

@@ -4,10 +4,10 @@ use mathlib.Core.Logic.{_≢_, ⊎-elim}
 use mathlib.Core.List.{List}
 use Prim.Native.Nat.{ℕ}
 use native.Mathlib.Omega.{arith}
+use Rattle.numbers.proofs.Cases.{same?}
 use Rattle.rules.specs.WhatTheIndexDoes.{Profile}
 use Rattle.rules.specs.Table.{free, inner, empty, node, lookup}
 use Rattle.tree.specs.Soundness.{Sound}
-use Rattle.tree.proofs.Choices.{same?}
 use Rattle.tree.proofs.OneCell.{update-at, update-off}
 
 root : empty .cells 1 ≡ inner 0 1

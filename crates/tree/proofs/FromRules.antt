@@ -12,21 +12,21 @@ use lib.Dec.{leb, eqb}
 use borrow.Author.Tests.{eq-eqb, ne-eqb, eqb-true, le-leb, leb-true, not-true}
 use Rattle.numbers.specs.Stored.{positive, plusAt, minusAt}
 use Rattle.numbers.proofs.Laws.{one-side, sides}
-use Rattle.numbers.proofs.Cases.{lt-or-ge}
+use Rattle.numbers.proofs.Cases.{lt-or-ge, same?, some?}
 use Rattle.rules.specs.WhatTheIndexDoes.{Profile, isRow}
 use Rattle.rules.specs.Table.{Cells, Table, free, used, node}
 use Rattle.rules.specs.ASoundTable.{holds, sizeAt, home, usedAt, hasChild, codeAt, rule4, rule5, rule6, rule7}
 use Rattle.rules.specs.Rendering.{Kind, baseOf, checkOf, renderBase, readCells, readTable}
-use Rattle.rules.proofs.Ranges.{both}
+use Rattle.rules.proofs.Choices.{both, either}
+use Rattle.rules.proofs.Ranges.{within-is}
 use Rattle.tree.specs.Soundness.{Held, aLeaf, anInner, Fruit, Bare, Sits, Tree, Sound}
 use Rattle.tree.specs.Renders.{Renders}
-use Rattle.tree.proofs.Choices.{same?, some?, either}
 use Rattle.tree.proofs.UsedCells.{parentless-unused, by-use}
 use Rattle.tree.proofs.Trees.{row-low, held-inner, held-end, used-pos, row-used, one-path}
 use Rattle.tree.proofs.Elements.{check-root, check-used, check-link, check-past, base-length, check-length}
 use Rattle.tree.proofs.Elements.{read-base, read-row, base-at, base-plus, base-minus, check-at}
 use Rattle.tree.proofs.Climbs.{PathTo, path-home, home-path}
-use Rattle.tree.proofs.ReadTests.{within-is, other-side, holds-is, element-free, lengths-are, header, Ruled}
+use Rattle.tree.proofs.ReadTests.{other-side, holds-is, element-free, lengths-are, header, Ruled}
 use Rattle.tree.proofs.ReadTests.{used-parent, used-base, used-row, used-inside, parent-base, others-to, has-child-next}
 
 module _ {K : Kind} {P : Profile} {base check : List ℤ} (r : Ruled K P base check) where

@@ -12,7 +12,8 @@ use borrow.Author.Tests.{le-leb, leb-true}
 use Rattle.rules.specs.Ranges.{within}
 use Rattle.rules.specs.WhatTheIndexDoes.{END, Profile, RoundTrip, coded, isIdentifier, labels}
 use Rattle.rules.specs.Table.{Cells, Table, next, walk, node, lookup}
-use Rattle.rules.proofs.Ranges.{both, inside}
+use Rattle.rules.proofs.Choices.{both}
+use Rattle.rules.proofs.Ranges.{inside}
 use Rattle.tree.specs.Soundness.{rowAt, Tree, Sound}
 use Rattle.tree.proofs.Steps.{next-step, lookup-row}
 use Rattle.tree.proofs.Trees.{held-leaf, held-code, based-pos, row-pos, step-low, step-high, step-held, last-step}

@@ -11,7 +11,7 @@ use borrow.Author.Tests.{leb-true}
 use Rattle.rules.specs.WhatTheIndexDoes.{END, Profile, RoundTrip, coded, isIdentifier, labels, isRow}
 use Rattle.rules.specs.Table.{Table, node, lookup}
 use Rattle.rules.specs.Insertion.{inserted}
-use Rattle.rules.proofs.Ranges.{both}
+use Rattle.rules.proofs.Choices.{both}
 use Rattle.tree.specs.Moved.{Moved}
 use Rattle.tree.specs.Soundness.{rowAt, Bare, Deep, Sound}
 use Rattle.tree.proofs.Steps.{lookup-row}

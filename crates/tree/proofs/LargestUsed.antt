@@ -6,8 +6,8 @@ use Prim.Native.Nat.{ℕ, zero, suc, _≤_, _<_, max}
 use native.Mathlib.Omega.{arith}
 use Rattle.rules.specs.WhatTheIndexDoes.{Profile}
 use Rattle.rules.specs.Table.{Cells, used, largestUsed}
+use Rattle.rules.proofs.Choices.{branch}
 use Rattle.tree.specs.Soundness.{Tree}
-use Rattle.tree.proofs.Choices.{branch}
 use Rattle.tree.proofs.UsedCells.{parent-used, other-parent}
 
 module _ (T : Cells) where

@@ -1,7 +1,4 @@
 -- The laws, in the order of what they show.
--- Choices by a test, and ranges.
-pub mod Choices
-pub mod Ranges
 -- Steps, walks and paths.
 pub mod Steps
 pub mod UsedCells

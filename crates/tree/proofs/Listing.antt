@@ -8,13 +8,14 @@ use native.Mathlib.Omega.{arith}
 use lib.ListN.{length}
 use lib.Dec.{ltb, eqb}
 use borrow.Author.Tests.{lt-ltb, le-ltb, ltb-true, ltb-false, eq-eqb, ne-eqb, eqb-false}
+use Rattle.numbers.proofs.Cases.{same?}
 use Rattle.rules.specs.WhatTheIndexDoes.{END, Profile, RoundTrip, isIdentifier, labels}
 use Rattle.rules.specs.Table.{Cells, Table, next, walk, lookup}
 use Rattle.rules.specs.Listing.{Entry, listed, spelt, tried, visited, entries}
+use Rattle.rules.proofs.Choices.{branch}
 use Rattle.tree.specs.Soundness.{Step, Held, aLeaf, anInner, Tree, Sound}
-use Rattle.tree.specs.Members.{Among}
+use Rattle.tree.specs.Members.{Among, Once}
 use Rattle.tree.specs.Listed.{Before, InOrder}
-use Rattle.tree.proofs.Choices.{same?, branch}
 use Rattle.tree.proofs.Steps.{next-step}
 use Rattle.tree.proofs.Trees.{row-low, row-pos, based-row, step-low, step-high, step-held}
 use Rattle.tree.proofs.Identifiers.{spelt-codes, identifier-short, walk-used, live-identifier}
@@ -58,6 +59,10 @@ module _ (P : Profile) (T : Cells) where
   in-order-append [] fs p q b = q
   in-order-append (e ∷ es) fs p q b =
       (λ f a. ⊎-elim (p .0 f) (b e f (inl refl)) (among-either f fs es a), in-order-append es fs (p .1) q (λ d f a. b d f (inr a)))
+
+  in-order-once : (es : List Entry) → InOrder P es → Once es
+  in-order-once [] p = tt
+  in-order-once (e ∷ es) p = (λ a. before-other (labels P (e .key)) (labels P (e .key)) (p .0 e a) refl, in-order-once es (p .1))
 
   -- ---- the labels of a cell
 
@@ -225,3 +230,6 @@ module _ {P : Profile} (r : RoundTrip P) {t : Table} (w : Sound P t) where
 
   pub entries-in-order : InOrder P (entries P (t .cells))
   entries-in-order = entries-visit P (t .cells) r (w .tree) .order
+
+  pub entries-once : Once (entries P (t .cells))
+  entries-once = in-order-once P (t .cells) (entries P (t .cells)) entries-in-order

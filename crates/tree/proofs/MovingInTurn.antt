@@ -6,13 +6,13 @@ use Prim.Native.Nat.{ℕ, zero, suc, _+_, _-_, _≤_}
 use native.Mathlib.Omega.{arith}
 use lib.Dec.{leb, eqb}
 use borrow.Author.Tests.{le-leb, lt-leb, eq-eqb, ne-eqb, eqb-true, eqb-false}
-use Rattle.numbers.proofs.Cases.{lt-or-ge}
+use Rattle.numbers.proofs.Cases.{lt-or-ge, same?}
 use Rattle.rules.specs.WhatTheIndexDoes.{Profile}
 use Rattle.rules.specs.Table.{Content, Cells, free}
 use Rattle.rules.specs.Insertion.{renamed, relocate}
+use Rattle.rules.proofs.Choices.{branch}
 use Rattle.tree.specs.Soundness.{Tree}
 use Rattle.tree.specs.MovingInTurn.{under, hop, hops, rebase, inTurn}
-use Rattle.tree.proofs.Choices.{same?, branch}
 use Rattle.tree.proofs.Relocation.{Fit, M, ρ, Kept, s-pos, s-alone, child-far, child-near, to-child, to-other, to-place, place-clear, used-kept, parent-kept, moved-at, moved-from, to-own, s-moved}
 
 module _ (H : Cells) (t u : ℕ) where

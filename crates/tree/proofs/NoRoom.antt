@@ -14,7 +14,7 @@ use Rattle.rules.specs.WhatTheIndexDoes.{Profile, isIdentifier, isRow}
 use Rattle.rules.specs.Table.{Table, lookup}
 use Rattle.rules.specs.Insertion.{inserted}
 use Rattle.rules.specs.Commands.{insert, Outcome, keyAllowed, numberAllowed, carriedOut, answered}
-use Rattle.tree.proofs.Choices.{branch}
+use Rattle.rules.proofs.Choices.{branch}
 
 -- The identifier and the row are allowed, the identifier is not live, and a placement of the course does not fit.
 pub record Unplaced (P : Profile) (last : ℕ) (t : Table) (key : List ℕ) (n : ℕ) : Type 0 where

@@ -6,10 +6,10 @@ use mathlib.Core.List.{List, [], _∷_}
 use Prim.Native.Nat.{ℕ, _≤_}
 use native.Mathlib.Omega.{arith}
 use borrow.Author.Tests.{eq-eqb, ne-eqb}
+use Rattle.numbers.proofs.Cases.{same?}
 use Rattle.rules.specs.WhatTheIndexDoes.{Profile}
 use Rattle.rules.specs.Table.{Content, Cells, free, update, next, node}
 use Rattle.tree.specs.Soundness.{Step, rowAt, Fruit, Sits, Tree}
-use Rattle.tree.proofs.Choices.{same?}
 use Rattle.tree.proofs.Steps.{parent-cell, base-cell, step-next, step?, next-step, next-baseless}
 use Rattle.tree.proofs.Trees.{path-of}
 

@@ -8,9 +8,9 @@ use Prim.Native.Nat.{ℕ, _+_, _≤_, _<_}
 use native.Mathlib.Omega.{arith}
 use borrow.Author.Tests.{not-true}
 use Rattle.rules.specs.Placement.{greatestOf, opens, placed}
-use Rattle.rules.proofs.Ranges.{both}
+use Rattle.rules.proofs.Choices.{both}
+use Rattle.rules.proofs.Ranges.{first-least, first-low, first-passes}
 use Rattle.tree.specs.Members.{Among}
-use Rattle.tree.proofs.Ranges.{first-low, first-least, first-passes}
 
 pub greatest-least : (cs : List ℕ) (c : ℕ) → Among c cs → c ≤ greatestOf cs
 unfolding greatestOf

@@ -7,10 +7,9 @@ use Prim.Native.Nat.{ℕ}
 use lib.Dec.{eqb}
 use borrow.Author.Tests.{eq-eqb, eqb-true}
 use Rattle.rules.specs.Listing.{Entry}
-use Rattle.rules.proofs.Ranges.{both}
+use Rattle.rules.proofs.Choices.{branch, fails, both}
 use Rattle.tree.specs.Members.{Among}
 use Rattle.tree.specs.ThePlainList.{sameKey, rowIn, without}
-use Rattle.tree.proofs.Choices.{branch, fails}
 
 -- ---- identifiers
 

@@ -10,8 +10,8 @@ use Rattle.rules.specs.WhatTheIndexDoes.{Profile}
 use Rattle.rules.specs.Table.{Cells, free, update, node, childless}
 use Rattle.rules.specs.Insertion.{relocate}
 use Rattle.rules.specs.DeletionAndCompaction.{prune}
+use Rattle.rules.proofs.Choices.{branch}
 use Rattle.tree.specs.Soundness.{Step, rowAt, Fruit, Bare, Tree}
-use Rattle.tree.proofs.Choices.{branch}
 use Rattle.tree.proofs.Trees.{based-pos, row-pos, based-row, held-leaf, step-held, step-far, last-step, one-path, fruit-weak, fruit-whole, bare-path}
 use Rattle.tree.proofs.ChildCodes.{childless-baseless, childless-alone, child-next}
 use Rattle.tree.proofs.Relocation.{Fit, row-moved, s-moved}

@@ -11,26 +11,19 @@ use lib.Dec.{leb, eqb}
 use borrow.Author.Tests.{eq-eqb, ne-eqb, eqb-true, le-leb, lt-leb, leb-true, leb-false}
 use Rattle.numbers.specs.Stored.{positive, negative, plusOf, minusOf, plusAt, minusAt}
 use Rattle.numbers.proofs.Laws.{plus-negative, minus-negative, one-side, sides}
-use Rattle.numbers.proofs.Cases.{lt-or-ge}
+use Rattle.numbers.proofs.Cases.{lt-or-ge, some?}
 use Rattle.rules.specs.Ranges.{within, eachTo}
 use Rattle.rules.specs.WhatTheIndexDoes.{Profile, rightLengths, lastCell}
 use Rattle.rules.specs.Table.{Content, Cells, free, used, next}
 use Rattle.rules.specs.ASoundTable.{holds, sizeAt, usedAt, hasChild, others, rule1, rule4, rule5, rule6, rule7}
 use Rattle.rules.specs.Rendering.{Kind, readCells, readTable}
-use Rattle.rules.proofs.Ranges.{both, inside, below, each-to}
+use Rattle.rules.proofs.Choices.{branch, both, join, otherwise}
+use Rattle.rules.proofs.Ranges.{within-is, below, each-to, inside, some-to, to-each, to-some}
 use Rattle.tree.specs.Soundness.{Sits, Tree}
-use Rattle.tree.proofs.Choices.{some?, branch, join, otherwise}
 use Rattle.tree.proofs.UsedCells.{parent-used, other-parent, unused-parent, unused-other, by-use}
 use Rattle.tree.proofs.Steps.{step-next, next-step}
 use Rattle.tree.proofs.Trees.{step-used, step-far}
-use Rattle.tree.proofs.Ranges.{to-each, some-to, to-some}
 use Rattle.tree.proofs.Elements.{same-content, read-base, read-row, read-parent}
-
--- ---- tests
-
-pub within-is : (low high n : ℕ) → within low high n ≡ true → (low ≤ n) × (n ≤ high)
-unfolding within
-within-is low high n e = let (l, h) = both (leb low n) (leb n high) e in (leb-true low n l, leb-true n high h)
 
 -- ---- elements
 
@@ -87,7 +80,7 @@ module _ (base check : List ℤ) where
 
   blank-nought : eachTo (lastCell base) blank ≡ true → (i : ℕ) → sizeAt base < i → i < length base → Nought i
   blank-nought p i h l =
-      let e = rw (lt-leb i (sizeAt base) h) at (each-to (lastCell base) blank p i (omega arith) (omega arith)) in
+      let e = rw (lt-leb i (sizeAt base) h) at (each-to blank (lastCell base) p i (omega arith) (omega arith)) in
       let (b, c) = both (holds base i 0) (holds check i 0) e in
       (holds-is base i 0 b, holds-is check i 0 c)
 
@@ -171,7 +164,7 @@ module _ {base check : List ℤ} (b : Bounded base check) where
         otherwise (usedAt base check i) (test i) (λ e. h i low high (sym (same-used i) ∙ e)))
 
     pub unused-to : unused ≡ true → (i : ℕ) → 1 ≤ i → i ≤ sizeAt base → used T i ≡ false → test i ≡ true
-    unused-to e i low high u = rw (same-used i ∙ u) at (each-to (sizeAt base) _ e i low high)
+    unused-to e i low high u = rw (same-used i ∙ u) at (each-to _ (sizeAt base) e i low high)
 
     -- A test of every used cell but the root.
     pub to-others : ((i : ℕ) → 1 ≤ T i .parent → test i ≡ true) → others base check test ≡ true
@@ -182,7 +175,7 @@ module _ {base check : List ℤ} (b : Bounded base check) where
     pub others-to : others base check test ≡ true → (i : ℕ) → 1 ≤ T i .parent → test i ≡ true
     unfolding others
     others-to e i u = let far = parent-far i u in
-        rw (le-leb 2 i far, used-at i u) at (each-to (sizeAt base) _ e i (omega arith) (used-inside i u))
+        rw (le-leb 2 i far, used-at i u) at (each-to _ (sizeAt base) e i (omega arith) (used-inside i u))
 
 -- ---- children
 

@@ -4,11 +4,11 @@ use mathlib.Core.Logic.{_≢_, ⊎-elim}
 use mathlib.Core.List.{List, reverse}
 use Prim.Native.Nat.{ℕ, _+_, _-_, _≤_}
 use native.Mathlib.Omega.{arith}
+use Rattle.numbers.proofs.Cases.{same?, some?}
 use Rattle.rules.specs.WhatTheIndexDoes.{Profile, labels}
 use Rattle.rules.specs.Table.{Cells, free, next, lookup}
 use Rattle.rules.specs.Insertion.{renamed}
 use Rattle.tree.specs.Soundness.{Held, aLeaf, anInner, Fruit, Sits, Tree, Deep, Sound}
-use Rattle.tree.proofs.Choices.{same?, some?}
 use Rattle.tree.proofs.Steps.{next-step, lookup-same}
 use Rattle.tree.proofs.Trees.{bare-step}
 use Rattle.tree.proofs.Relocation.{Fit, M, ρ, baseTo, s-pos, child-far, to-child, to-other, used-kept, low-kept, parent-kept, to-zero, to-one, to-pos, moved-at, moved-from, to-inj, base-other, base-after, base-before, step-to, next-moved, node-moved, row-moved}

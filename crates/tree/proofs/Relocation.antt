@@ -7,11 +7,11 @@ use Prim.Native.Nat.{ℕ, _+_, _-_, _≤_, _<_}
 use native.Mathlib.Omega.{arith}
 use lib.Dec.{eqb}
 use borrow.Author.Tests.{eq-eqb, ne-eqb}
+use Rattle.numbers.proofs.Cases.{same?, some?}
 use Rattle.rules.specs.WhatTheIndexDoes.{Profile}
 use Rattle.rules.specs.Table.{Cells, free, next, node}
 use Rattle.rules.specs.Insertion.{to, renamed, moved}
 use Rattle.tree.specs.Soundness.{Step, rowAt, Tree}
-use Rattle.tree.proofs.Choices.{same?, some?}
 use Rattle.tree.proofs.Steps.{step-next, step?}
 use Rattle.tree.proofs.Trees.{zero-parent, based-pos, live, step-used, no-loop, path-of}
 

@@ -12,9 +12,8 @@ use Rattle.rules.specs.Table.{Table}
 use Rattle.rules.specs.ASoundTable.{holds, home, usedAt, rule1, rule2, rule3, rule4, rule5, rule6, rule7, sound}
 use Rattle.rules.specs.Rendering.{Kind, chained, readTable}
 use Rattle.rules.specs.PlainMethod.{plain, plainRule2, plainRule3, plainSound}
-use Rattle.rules.proofs.Ranges.{both}
+use Rattle.rules.proofs.Choices.{both, join}
 use Rattle.tree.specs.Renders.{Renders}
-use Rattle.tree.proofs.Choices.{join}
 use Rattle.tree.proofs.Elements.{read-rendered}
 use Rattle.tree.proofs.ReadTests.{holds-is, Bounded, first-rule, rule-first, Vacant}
 use Rattle.tree.proofs.FreeCells.{rules-vacant, vacant-rule2, vacant-rule3, plain-vacant, vacant-plain2, vacant-plain3}

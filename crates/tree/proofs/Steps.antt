@@ -6,10 +6,10 @@ use mathlib.Core.List.{List, [], _∷_, reverse, reverseAux}
 use Prim.Native.Nat.{ℕ, zero, suc, _+_, _≤_}
 use native.Mathlib.Omega.{arith}
 use borrow.Author.Tests.{lt-ltb, le-ltb, eq-eqb, ne-eqb}
+use Rattle.numbers.proofs.Cases.{same?, some?}
 use Rattle.rules.specs.WhatTheIndexDoes.{Profile, labels}
 use Rattle.rules.specs.Table.{Cells, free, next, walk, node, lookup}
 use Rattle.tree.specs.Soundness.{Step, rowAt}
-use Rattle.tree.proofs.Choices.{same?, some?}
 
 module _ (T : Cells) where
   -- A number that has a parent or a base is a cell.

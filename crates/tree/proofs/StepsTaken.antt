@@ -6,12 +6,13 @@ use Prim.Native.Nat.{ℕ, zero, suc, _≤_, _<_}
 use native.Mathlib.Omega.{arith}
 use lib.Dec.{eqb}
 use borrow.Author.Tests.{eqb-true}
+use Rattle.numbers.proofs.Cases.{same?}
 use Rattle.rules.specs.WhatTheIndexDoes.{Profile}
 use Rattle.rules.specs.Table.{Table}
 use Rattle.rules.specs.Insertion.{relocate}
 use Rattle.rules.specs.DeletionAndCompaction.{Moves, trimmed, compactionStep, compactionSteps, compacted}
+use Rattle.rules.proofs.Choices.{branch, not-zero}
 use Rattle.tree.specs.StepsTaken.{after, Lowers, Taken}
-use Rattle.tree.proofs.Choices.{same?, not-zero, branch}
 use Rattle.tree.proofs.Compaction.{owner, target, step-cases}
 
 module _ (P : Profile) where

@@ -14,11 +14,11 @@ use Rattle.rules.specs.Ranges.{firstFrom}
 use Rattle.rules.specs.WhatTheIndexDoes.{Profile}
 use Rattle.rules.specs.Table.{Table, used}
 use Rattle.rules.specs.Rendering.{chained, nextFree, renderCheck}
+use Rattle.rules.proofs.Ranges.{first-least, first-low}
 use Rattle.tree.specs.Soundness.{Sound}
 use Rattle.tree.specs.TheChain.{linksFrom, unusedFrom}
 use Rattle.tree.proofs.UsedCells.{parentless-unused}
 use Rattle.tree.proofs.Trees.{zero-parent}
-use Rattle.tree.proofs.Ranges.{first-low, first-least}
 use Rattle.tree.proofs.Elements.{check-link, check-at}
 
 module _ (u : ℕ → Bool) (size : ℕ) where

@@ -6,11 +6,11 @@ use Prim.Native.Nat.{ℕ, _+_, _-_}
 use native.Mathlib.Omega.{arith}
 use lib.Dec.{eqb}
 use borrow.Author.Tests.{eq-eqb, ne-eqb}
+use Rattle.numbers.proofs.Cases.{same?}
 use Rattle.rules.specs.WhatTheIndexDoes.{Profile}
 use Rattle.rules.specs.Table.{Cells}
 use Rattle.rules.specs.Insertion.{renamed, moved, relocate}
 use Rattle.tree.specs.Soundness.{Tree}
-use Rattle.tree.proofs.Choices.{same?}
 use Rattle.tree.proofs.Relocation.{Fit, M, ρ, baseTo, Kept, s-pos, s-stays, child-near, to-child, to-other, to-place, place-clear, place-from, used-kept, parent-kept, moved-at, moved-from, left-free, to-s, to-own, s-moved}
 use Rattle.tree.proofs.RelocatedTree.{tree-moved}
 

@@ -10,15 +10,16 @@ use lib.IntN.{ℤ}
 use lib.Dec.{leb, eqb}
 use borrow.Author.Tests.{eq-eqb, ne-eqb, le-leb, leb-true}
 use Rattle.numbers.specs.Stored.{positive, plusAt, minusAt}
+use Rattle.numbers.proofs.Cases.{same?, some?}
 use Rattle.rules.specs.Ranges.{within}
 use Rattle.rules.specs.WhatTheIndexDoes.{END, Profile, isRow}
 use Rattle.rules.specs.Table.{Cells, Table, next}
 use Rattle.rules.specs.ASoundTable.{sizeAt, home, usedAt, hasChild, codeAt, rule4, rule5, rule6, rule7}
 use Rattle.rules.specs.Rendering.{Kind, checkOf, readCells, readTable}
+use Rattle.rules.proofs.Choices.{branch, fails, join, otherwise}
 use Rattle.rules.proofs.Ranges.{inside}
 use Rattle.tree.specs.Soundness.{Held, aLeaf, anInner, Fruit, Tree, Deep}
 use Rattle.tree.specs.Renders.{Renders}
-use Rattle.tree.proofs.Choices.{same?, some?, branch, join, otherwise, fails}
 use Rattle.tree.proofs.UsedCells.{live-used, other-parent, unused-other, unused-parent}
 use Rattle.tree.proofs.Trees.{past-unused, used-pos, live, no-loop, past-free}
 use Rattle.tree.proofs.Elements.{check-root, check-link, check-past, check-at}

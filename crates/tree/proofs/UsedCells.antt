@@ -5,8 +5,8 @@ use mathlib.Core.Bool.{true, false, true≢false, or-true}
 use Prim.Native.Nat.{ℕ, _≤_}
 use native.Mathlib.Omega.{arith}
 use borrow.Author.Tests.{lt-ltb, le-ltb, eq-eqb, ne-eqb, ltb-true}
+use Rattle.numbers.proofs.Cases.{same?, some?}
 use Rattle.rules.specs.Table.{Cells, used}
-use Rattle.tree.proofs.Choices.{same?, some?}
 
 module _ (T : Cells) (i : ℕ) where
   pub parent-used : 1 ≤ T i .parent → used T i ≡ true
