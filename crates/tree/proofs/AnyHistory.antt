@@ -14,27 +14,17 @@ use Rattle.rules.specs.Table.{Table, lookup}
 use Rattle.rules.specs.Insertion.{inserted}
 use Rattle.rules.specs.DeletionAndCompaction.{deleted, compacted}
 use Rattle.rules.specs.Listing.{Entry, entries}
-use Rattle.rules.specs.Commands.{Command, insert, delete, find, compact, Outcome, keyAllowed, numberAllowed, carriedOut, answered}
+use Rattle.rules.specs.Commands.{Command, insert, delete, find, compact, keyAllowed, numberAllowed, carriedOut, answered}
 use Rattle.rules.proofs.Choices.{branch₂}
+use Rattle.tree.specs.AfterAnEdit.{Now}
 use Rattle.tree.specs.Soundness.{Sound}
-use Rattle.tree.specs.ThePlainList.{rowIn, without, told, Reply, heard, replied, history}
+use Rattle.tree.specs.ThePlainList.{rowIn, without, told, heard, replied, history, Agrees, Together}
 use Rattle.tree.proofs.Compaction.{same-lookup, compacted-same}
 use Rattle.tree.proofs.Listing.{listed-live, live-listed}
-use Rattle.tree.proofs.OneIdentifier.{Now, same-list?}
+use Rattle.tree.proofs.OneIdentifier.{same-list?}
 use Rattle.tree.proofs.Insertion.{inserted-now, inserted-honest}
 use Rattle.tree.proofs.Deletion.{deleted-now, deleted-less}
 use Rattle.tree.proofs.PlainList.{put-own, put-else, without-own, without-else, row-in}
-
--- A sound table that the arrays hold, and a list with the row of every identifier.
-pub record Agrees (P : Profile) (last : ℕ) (t : Table) (es : List Entry) : Type 0 where
-  pub sound : Sound P t
-  pub fits : t .size ≤ last
-  pub rows : (key : List ℕ) → isIdentifier P key ≡ true → lookup P (t .cells) key ≡ rowIn es key
-
--- The same answer, and what is left agrees.
-pub record Together (P : Profile) (last : ℕ) (o : Outcome) (r : Reply) : Type 0 where
-  pub answer : o .answer ≡ r .answer
-  pub left : Agrees P last (o .table) (r .list)
 
 module _ {P : Profile} (trip : RoundTrip P) (last : ℕ) where
   -- ---- one command

@@ -12,22 +12,13 @@ use Rattle.rules.specs.Placement.{placed}
 use Rattle.rules.specs.Insertion.{relocate}
 use Rattle.rules.specs.DeletionAndCompaction.{Moves, trimmed, compactionStep, compactionSteps, compacted}
 use Rattle.rules.proofs.Choices.{branch, both}
-use Rattle.tree.specs.Soundness.{rowAt, Sound}
+use Rattle.tree.specs.AfterAnEdit.{Same, Trimmed}
+use Rattle.tree.specs.Soundness.{Sound}
 use Rattle.tree.proofs.Steps.{step-next, lookup-same}
 use Rattle.tree.proofs.Relocation.{s-pos, row-moved}
 use Rattle.tree.proofs.RelocatedTree.{tree-moved, sound-moved}
 use Rattle.tree.proofs.PlacedChildren.{placed-fit}
 use Rattle.tree.proofs.LargestUsed.{largest-low, largest-parent, largest-again, trimmed-tree}
-
--- t′ is sound, means what t means, and is no larger.
-pub record Same (P : Profile) (t t′ : Table) : Type 0 where
-  pub sound : Sound P t′
-  pub rows : (path : List ℕ) → rowAt (t′ .cells) path ≡ rowAt (t .cells) path
-  pub less : t′ .size ≤ t .size
-
--- The size is the largest used cell.
-abbrev pub Trimmed : Table → Type 0
-Trimmed t = t .size ≡ largestUsed (t .cells) (t .size)
 
 -- ---- the two cases of a step
 

@@ -2,7 +2,7 @@
 -- does not fit; and then nothing has changed. Assumes nothing.
 use mathlib.Core.Path.{_≡_, refl, ap}
 use mathlib.Core.Logic.{_↔_}
-use mathlib.Core.Bool.{true, false}
+use mathlib.Core.Bool.{true}
 use mathlib.Core.List.{List}
 use Prim.Native.Nat.{ℕ, _<_}
 use native.Mathlib.Omega.{arith}
@@ -15,13 +15,7 @@ use Rattle.rules.specs.Table.{Table, lookup}
 use Rattle.rules.specs.Insertion.{inserted}
 use Rattle.rules.specs.Commands.{insert, Outcome, keyAllowed, numberAllowed, carriedOut, answered}
 use Rattle.rules.proofs.Choices.{branch}
-
--- The identifier and the row are allowed, the identifier is not live, and a placement of the course does not fit.
-pub record Unplaced (P : Profile) (last : ℕ) (t : Table) (key : List ℕ) (n : ℕ) : Type 0 where
-  pub identifier : isIdentifier P key ≡ true
-  pub row : isRow n ≡ true
-  pub absent : lookup P (t .cells) key ≡ 0
-  pub unfit : inserted P last t key n .fitted ≡ false
+use Rattle.tree.specs.Room.{Unplaced}
 
 module _ (P : Profile) (last : ℕ) (t : Table) (key : List ℕ) (n : ℕ) where
   -- What is said of an outcome: NO ROOM is given for the one reason only, and changes nothing.

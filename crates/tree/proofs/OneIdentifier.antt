@@ -6,16 +6,11 @@ use mathlib.Core.List.{List, reverse, List-discrete}
 use Prim.Native.Nat.{ℕ}
 use native.Mathlib.Decide.{ℕ-discrete}
 use Rattle.rules.specs.WhatTheIndexDoes.{Profile, RoundTrip, isIdentifier, labels}
-use Rattle.rules.specs.Table.{Table, lookup}
+use Rattle.rules.specs.Table.{Table}
+use Rattle.tree.specs.AfterAnEdit.{Now}
 use Rattle.tree.specs.Soundness.{rowAt, Sound}
 use Rattle.tree.proofs.Steps.{lookup-row, lookup-same}
 use Rattle.tree.proofs.Identifiers.{path-inj, identifier-coded}
-
--- The table t′ is sound, has the row n at key (0: none), and at any other identifier what t has.
-pub record Now (P : Profile) (t : Table) (key : List ℕ) (n : ℕ) (t′ : Table) : Type 0 where
-  pub sound : Sound P t′
-  pub here : lookup P (t′ .cells) key ≡ n
-  pub else : (j : List ℕ) → isIdentifier P j ≡ true → j ≢ key → lookup P (t′ .cells) j ≡ lookup P (t .cells) j
 
 -- Two lists of numbers are the same or not.
 pub same-list? : (r p : List ℕ) → (r ≡ p) ⊎ (r ≢ p)

@@ -13,6 +13,7 @@ use Rattle.rules.specs.Table.{Cells, inner, update, used, next}
 use Rattle.rules.specs.Placement.{greatestOf, placed, fits}
 use Rattle.rules.specs.Insertion.{relocate, Course, grow, extend, insertFrom}
 use Rattle.rules.proofs.Choices.{branch, not-zero, neither}
+use Rattle.tree.specs.Room.{Honest}
 use Rattle.tree.specs.Soundness.{Tree}
 use Rattle.tree.proofs.Steps.{next-step}
 use Rattle.tree.proofs.Trees.{step-held, held-onward}
@@ -21,10 +22,6 @@ use Rattle.tree.proofs.Branches.{Word}
 use Rattle.tree.proofs.Collisions.{base′, codes, collide-base}
 
 module _ (last : ℕ) where
-  -- The course says of itself whether it fits.
-  abbrev pub Honest : Course → Type 0
-  Honest course = course .fitted ≡ leb (course .table .size) last
-
   -- One placement more, whose greatest cell the size includes.
   placement-honest : (far size : ℕ) (more : Bool) → far ≤ size → (far ≤ last → more ≡ leb size last) → (leb far last && more) ≡ leb size last
   placement-honest far size more h on = ⊎-elim
@@ -39,7 +36,7 @@ module _ (last : ℕ) where
       let q = placed (used (update T t (inner s 1))) (max size t) (d ∷ []) in
       omega (arith, grow-wide cs d (update T t (inner s q)) (max size t) t n)
 
-  grow-honest : (cs : List ℕ) (c : ℕ) (T : Cells) (size s n : ℕ) → size ≤ last → T s .base + c ≤ last → Honest (grow last T size s c cs n)
+  grow-honest : (cs : List ℕ) (c : ℕ) (T : Cells) (size s n : ℕ) → size ≤ last → T s .base + c ≤ last → Honest last (grow last T size s c cs n)
   unfolding grow fits greatestOf
   grow-honest [] c T size s n h k = sym (le-leb (max size (T s .base + c)) last (omega arith))
   grow-honest (d ∷ cs) c T size s n h k =
@@ -52,9 +49,9 @@ module _ (last : ℕ) where
       (λ g. grow-honest cs d (update T t (inner s q)) (max size t) t n (omega arith) (omega (arith, g, f)))
 
   module _ {P : Profile} {T : Cells} {size : ℕ} (w : Tree P T size) (h : size ≤ last) (n : ℕ) where
-    extend-honest : (s c : ℕ) (cs : List ℕ) → 1 ≤ T s .base → Honest (extend P last T size s c cs n)
+    extend-honest : (s c : ℕ) (cs : List ℕ) → 1 ≤ T s .base → Honest last (extend P last T size s c cs n)
     unfolding extend fits greatestOf
-    extend-honest s c cs based = branch (λ (r : Course). Honest r) (used T (T s .base + c) || ltb last (T s .base + c))
+    extend-honest s c cs based = branch (λ (r : Course). Honest last r) (used T (T s .base + c) || ltb last (T s .base + c))
         (λ e. placement-honest far (on .table .size) (on .fitted) (omega (arith, grow-wide cs c R (max size far) s n))
         (λ g. grow-honest cs c R (max size far) s n (omega arith) (omega (arith, collide-base w s c based))))
         (λ e. grow-honest cs c T size s n h (ltb-false last (T s .base + c) (neither (used T (T s .base + c)) (ltb last (T s .base + c)) e .1)))
@@ -71,10 +68,10 @@ module _ (last : ℕ) where
         on : Course
         on = grow last R (max size far) s c cs n
 
-    pub insert-honest : (cs : List ℕ) (c s : ℕ) → Word P c cs → 1 ≤ T s .base → Honest (insertFrom P last T size s (c ∷ cs) n)
+    pub insert-honest : (cs : List ℕ) (c s : ℕ) → Word P c cs → 1 ≤ T s .base → Honest last (insertFrom P last T size s (c ∷ cs) n)
     unfolding insertFrom
-    insert-honest [] c s wd based = branch (λ (r : Course). Honest r) (eqb (next T s c) 0)
+    insert-honest [] c s wd based = branch (λ (r : Course). Honest last r) (eqb (next T s c) 0)
         (λ e. extend-honest s c [] based) (λ e. sym (le-leb size last h))
-    insert-honest (d ∷ cs) c s wd based = branch (λ (r : Course). Honest r) (eqb (next T s c) 0)
+    insert-honest (d ∷ cs) c s wd based = branch (λ (r : Course). Honest last r) (eqb (next T s c) 0)
         (λ e. extend-honest s c (d ∷ cs) based)
         (λ e. insert-honest cs d (next T s c) (wd .2) (held-onward (step-held w (next-step T (not-zero (next T s c) e))) (wd .0)))

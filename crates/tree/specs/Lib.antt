@@ -1,10 +1,16 @@
 -- What the laws speak of, beside document 01's own definitions.
-pub mod Members
+-- Sound tables, and their rendering.
 pub mod Soundness
-pub mod Moved
-pub mod MovingInTurn
-pub mod StepsTaken
-pub mod Listed
 pub mod Renders
 pub mod TheChain
+-- What is said of the commands.
+pub mod Moved
+pub mod MovingInTurn
+pub mod Room
+pub mod StepsTaken
+pub mod AfterAnEdit
+pub mod Listed
+-- The plain list of demand 2.
 pub mod ThePlainList
+-- Lists.
+pub mod Members

@@ -1,18 +1,20 @@
 -- Demand 2: a plain list of identifiers and rows beside the table. Both take the same commands; the list decides and answers by
 -- what it holds, and is told of the table's placement only what a list cannot know.
-use Prim.Native.Nat.{ℕ}
+use mathlib.Core.Path.{_≡_}
+use Prim.Native.Nat.{ℕ, _≤_}
 use mathlib.Core.Bool.{Bool, true, false, cond, _&&_}
 use mathlib.Core.List.{List, [], _∷_}
 use lib.Dec.{ltb, eqb}
 use Rattle.rules.specs.declared.Answer.{Answer}
 use Rattle.rules.specs.declared.Answer.the-variants.{Done, Key, Number, Absent, NoRoom}
 use Rattle.rules.specs.Answers.{found, present}
-use Rattle.rules.specs.WhatTheIndexDoes.{Profile}
-use Rattle.rules.specs.Table.{Table}
+use Rattle.rules.specs.WhatTheIndexDoes.{Profile, isIdentifier}
+use Rattle.rules.specs.Table.{Table, lookup}
 use Rattle.rules.specs.Insertion.{inserted}
 use Rattle.rules.specs.DeletionAndCompaction.{compacted}
 use Rattle.rules.specs.Listing.{Entry}
-use Rattle.rules.specs.Commands.{Command, insert, delete, find, compact, keyAllowed, numberAllowed, answered}
+use Rattle.rules.specs.Commands.{Command, insert, delete, find, compact, Outcome, keyAllowed, numberAllowed, answered}
+use Rattle.tree.specs.Soundness.{Sound}
 
 -- ---- the list
 
@@ -95,3 +97,16 @@ history P last t es (c ∷ cs) =
     let r = replied P (told P last t c) es c in
     let on = history P last (o .table) (r .list) cs in
     record { answers = o .answer ∷ on .answers; replies = r .answer ∷ on .replies; table = on .table; list = on .list }
+
+-- ---- what is said of the two
+
+-- A sound table that the arrays hold, and a list with the row of every identifier.
+pub record Agrees (P : Profile) (last : ℕ) (t : Table) (es : List Entry) : Type 0 where
+  pub sound : Sound P t
+  pub fits : t .size ≤ last
+  pub rows : (key : List ℕ) → isIdentifier P key ≡ true → lookup P (t .cells) key ≡ rowIn es key
+
+-- The same answer, and what is left agrees.
+pub record Together (P : Profile) (last : ℕ) (o : Outcome) (r : Reply) : Type 0 where
+  pub answer : o .answer ≡ r .answer
+  pub left : Agrees P last (o .table) (r .list)

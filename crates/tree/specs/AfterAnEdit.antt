@@ -1,0 +1,25 @@
+-- What is said of a table after an edit.
+use mathlib.Core.Path.{_≡_}
+use mathlib.Core.Logic.{_≢_}
+use mathlib.Core.Bool.{true}
+use mathlib.Core.List.{List}
+use Prim.Native.Nat.{ℕ, _≤_}
+use Rattle.rules.specs.WhatTheIndexDoes.{Profile, isIdentifier}
+use Rattle.rules.specs.Table.{Table, largestUsed, lookup}
+use Rattle.tree.specs.Soundness.{rowAt, Sound}
+
+-- The table t′ is sound, has the row n at key (0: none), and at any other identifier what t has.
+pub record Now (P : Profile) (t : Table) (key : List ℕ) (n : ℕ) (t′ : Table) : Type 0 where
+  pub sound : Sound P t′
+  pub here : lookup P (t′ .cells) key ≡ n
+  pub else : (j : List ℕ) → isIdentifier P j ≡ true → j ≢ key → lookup P (t′ .cells) j ≡ lookup P (t .cells) j
+
+-- t′ is sound, means what t means, and is no larger.
+pub record Same (P : Profile) (t t′ : Table) : Type 0 where
+  pub sound : Sound P t′
+  pub rows : (path : List ℕ) → rowAt (t′ .cells) path ≡ rowAt (t .cells) path
+  pub less : t′ .size ≤ t .size
+
+-- The size is the largest used cell.
+abbrev pub Trimmed : Table → Type 0
+Trimmed t = t .size ≡ largestUsed (t .cells) (t .size)
