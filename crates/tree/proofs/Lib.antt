@@ -21,7 +21,7 @@ pub mod Room
 pub mod Identifiers
 pub mod OneIdentifier
 pub mod Insertion
-pub mod NoRoom
+pub mod Refusals
 -- Deletion and compaction.
 pub mod Pruning
 pub mod LargestUsed
