@@ -6,24 +6,28 @@ use mathlib.Core.Bool.{true}
 use mathlib.Core.List.{List, [], _∷_}
 use Prim.Native.Nat.{ℕ, _≤_}
 use native.Mathlib.Omega.{arith}
+use lib.IntN.{ℤ}
 use lib.Dec.{ltb}
 use borrow.Author.Tests.{ltb-true, ltb-false, leb-true}
 use Rattle.numbers.proofs.Cases.{some?}
-use Rattle.rules.specs.WhatTheIndexDoes.{Profile, RoundTrip, isIdentifier, isRow}
+use Rattle.rules.specs.WhatTheIndexDoes.{Profile, RoundTrip, isIdentifier, isRow, lastCell}
 use Rattle.rules.specs.Table.{Table, lookup}
+use Rattle.rules.specs.ASoundTable.{sound}
 use Rattle.rules.specs.Insertion.{inserted}
 use Rattle.rules.specs.DeletionAndCompaction.{deleted, compacted}
 use Rattle.rules.specs.Listing.{Entry, entries}
 use Rattle.rules.specs.Commands.{Command, insert, delete, find, compact, keyAllowed, numberAllowed, carriedOut, answered}
+use Rattle.rules.specs.Rendering.{readTable}
 use Rattle.rules.proofs.Choices.{branch₂}
-use Rattle.tree.specs.AfterAnEdit.{Now}
 use Rattle.tree.specs.Soundness.{Sound}
+use Rattle.tree.specs.AfterAnEdit.{Now}
 use Rattle.tree.specs.ThePlainList.{rowIn, without, told, heard, replied, history, Agrees, Together}
-use Rattle.tree.proofs.Compaction.{same-lookup, compacted-same}
-use Rattle.tree.proofs.Listing.{listed-live, live-listed}
 use Rattle.tree.proofs.OneIdentifier.{same-list?}
 use Rattle.tree.proofs.Insertion.{inserted-now, inserted-honest}
+use Rattle.tree.proofs.Compaction.{same-lookup, compacted-same}
 use Rattle.tree.proofs.Deletion.{deleted-now, deleted-less}
+use Rattle.tree.proofs.SevenRules.{rules-render}
+use Rattle.tree.proofs.Listing.{listed-live, live-listed}
 use Rattle.tree.proofs.PlainList.{put-own, put-else, without-own, without-else, row-in}
 
 module _ {P : Profile} (trip : RoundTrip P) (last : ℕ) where
@@ -115,3 +119,9 @@ module _ {P : Profile} (trip : RoundTrip P) (last : ℕ) where
       let h = history P last t (entries P (t .cells)) cs in
       (h .answers ≡ h .replies) × Agrees P last (h .table) (h .list)
   any-history {t} w fits cs = history-agrees cs (entries P (t .cells)) (entries-agree w fits)
+
+-- From any two arrays that the audit passes.
+pub audited-history : {P : Profile} → RoundTrip P → (base check : List ℤ) → sound P base check ≡ true → (cs : List Command) →
+    let h = history P (lastCell base) (readTable base check) (entries P (readTable base check .cells)) cs in
+    (h .answers ≡ h .replies) × Agrees P (lastCell base) (h .table) (h .list)
+audited-history {P} trip base check e cs = let r = rules-render P base check e in any-history trip (lastCell base) (r .table) (r .fits) cs

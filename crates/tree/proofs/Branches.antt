@@ -11,8 +11,9 @@ use Rattle.rules.specs.Table.{Content, Cells, Table, free, inner, leaf, update,
 use Rattle.rules.specs.Placement.{placed}
 use Rattle.rules.specs.Insertion.{grow}
 use Rattle.tree.specs.Soundness.{Step, Held, aLeaf, anInner, rowAt, Fruit, Sits, Tree}
-use Rattle.tree.proofs.UsedCells.{unused-parent}
+use Rattle.tree.specs.Moved.{Still}
 use Rattle.tree.proofs.Steps.{step-next}
+use Rattle.tree.proofs.UsedCells.{unused-parent}
 use Rattle.tree.proofs.Trees.{past-unused, based-pos, one-path}
 use Rattle.tree.proofs.Placement.{placed-pos, placed-opens, opens-each}
 use Rattle.tree.proofs.OneCell.{update-at, update-off, OneMore, path-more, row-other, row-inner, fruit-more, tree-more}
@@ -142,7 +143,7 @@ grow-count last T size s c (d ∷ cs) n = refl
 -- It is T with a branch more: every node of T stands where it was.
 pub record Grown (P : Profile) (T : Cells) (path : List ℕ) (n : ℕ) (R : Table) : Type 0 where
   pub meant : Meant P T path n R
-  pub stays : (r : List ℕ) → 1 ≤ node T r → node (R .cells) r ≡ node T r
+  pub still : Still T (R .cells)
 
 module _ {P : Profile} (some : 1 ≤ P .greatest) (last n : ℕ) (row : isRow n ≡ true) where
   -- The place of the next label, below the cell t, whose base is q.
@@ -164,7 +165,7 @@ module _ {P : Profile} (some : 1 ≤ P .greatest) (last n : ℕ) (row : isRow n 
       let a : Puts P T s c (leaf s n) = record { place = p; under = refl; held = aLeaf wd refl row } in
       record {
         meant = record { tree = put-tree w a; here = put-here w a path e; else = put-other w a path e; fruit = leaf-fruit w a refl fruit };
-        stays = λ r h. path-more (put-one w a) r refl h;
+        still = λ r h. path-more (put-one w a) r refl h;
       }
   grow-grown (d ∷ cs) c {T} {size} {s} path w wd e p fruit =
       let t = T s .base + c in
@@ -180,5 +181,5 @@ module _ {P : Profile} (some : 1 ≤ P .greatest) (last n : ℕ) (row : isRow n 
       let m = g .meant in
       record {
         meant = record { tree = m .tree; here = m .here; fruit = m .fruit; else = λ r ne. m .else r ne ∙ put-inner w w′ refl r };
-        stays = λ r h. let k = path-more (put-one w w′) r refl h in g .stays r (rw k h) ∙ k;
+        still = λ r h. let k = path-more (put-one w w′) r refl h in g .still r (rw k h) ∙ k;
       }

@@ -12,8 +12,8 @@ use Rattle.numbers.proofs.Cases.{same?, some?}
 use Rattle.rules.specs.WhatTheIndexDoes.{Profile}
 use Rattle.rules.specs.Table.{Cells, next, childCodes, childless}
 use Rattle.rules.proofs.Choices.{branch}
-use Rattle.tree.specs.Members.{Among}
 use Rattle.tree.specs.Soundness.{Step, Tree}
+use Rattle.tree.specs.Members.{Among}
 use Rattle.tree.proofs.Steps.{step-next, next-baseless}
 use Rattle.tree.proofs.Trees.{step-low, step-high, step-far}
 

@@ -13,17 +13,17 @@ use Rattle.rules.specs.Table.{Cells, used, next, node, childCodes}
 use Rattle.rules.specs.Placement.{greatestOf, placed}
 use Rattle.rules.specs.Insertion.{relocate, Course, grow}
 use Rattle.rules.proofs.Choices.{branch}
-use Rattle.tree.specs.Members.{Among, Once}
-use Rattle.tree.specs.Moved.{Changed, Moved}
 use Rattle.tree.specs.Soundness.{Tree}
+use Rattle.tree.specs.Moved.{Fit, Still, Changed, Moved}
+use Rattle.tree.specs.Members.{Among, Once}
 use Rattle.tree.proofs.Steps.{step-next, next-step}
 use Rattle.tree.proofs.Trees.{last-step, one-path}
 use Rattle.tree.proofs.Placement.{greatest-least}
 use Rattle.tree.proofs.ChildCodes.{codes-lead, step-among}
-use Rattle.tree.proofs.Relocation.{Fit, ρ, s-pos, child-changes, to-other, to-pos, node-moved, s-moved, clear-moved}
+use Rattle.tree.proofs.PlacedChildren.{placed-clear, child-among, placed-fit}
+use Rattle.tree.proofs.Relocation.{ρ, s-pos, child-changes, to-other, to-pos, node-moved, s-moved, clear-moved}
 use Rattle.tree.proofs.RelocatedTree.{tree-moved}
 use Rattle.tree.proofs.Branches.{Place}
-use Rattle.tree.proofs.PlacedChildren.{placed-clear, child-among, placed-fit}
 
 codes-once : (T : Cells) (s k : ℕ) → Once (childCodes T s k)
 unfolding childCodes
@@ -70,16 +70,13 @@ module _ {P : Profile} {T : Cells} {size : ℕ} (w : Tree P T size) (s c : ℕ) 
       nowhere : T (T s .base + c) .parent ≢ s
       nowhere k = omega (arith, none, step-next T {s = s} {c = c} (record { based = based; at = refl; back = k }))
 
-  -- Every node stands in R where it stands in the table after the move.
-  abbrev Stays : Cells → Type 0
-  Stays R = (r : List ℕ) → 1 ≤ node (relocate T s base′) r → node R r ≡ node (relocate T s base′) r
-
-  module _ (R : Cells) (stays : Stays R) (path : List ℕ) (e : node T path ≡ s) where
+  -- R is the table after the move, or one with more cells.
+  module _ (R : Cells) (still : Still (relocate T s base′) R) (path : List ℕ) (e : node T path ≡ s) where
     node-now : (r : List ℕ) → 1 ≤ node T r → node R r ≡ ρ w collide-fit (node T r)
     unfolding relocate
     node-now r h =
         let k = node-moved w collide-fit r in
-        stays r (rw k (to-pos w collide-fit (node T r) h)) ∙ k
+        still r (rw k (to-pos w collide-fit (node T r) h)) ∙ k
 
     changed : (r : List ℕ) → 1 ≤ node T r → T (node T r) .parent ≡ s → Changed T R r
     changed r h k = record { was = h; now = λ f. child-changes w collide-fit (node T r) k (sym (node-now r h) ∙ f) }

@@ -12,12 +12,12 @@ use Rattle.rules.specs.Placement.{placed}
 use Rattle.rules.specs.Insertion.{relocate}
 use Rattle.rules.specs.DeletionAndCompaction.{Moves, trimmed, compactionStep, compactionSteps, compacted}
 use Rattle.rules.proofs.Choices.{branch, both}
-use Rattle.tree.specs.AfterAnEdit.{Same, Trimmed}
 use Rattle.tree.specs.Soundness.{Sound}
+use Rattle.tree.specs.AfterAnEdit.{Same, Trimmed}
 use Rattle.tree.proofs.Steps.{step-next, lookup-same}
+use Rattle.tree.proofs.PlacedChildren.{placed-fit}
 use Rattle.tree.proofs.Relocation.{s-pos, row-moved}
 use Rattle.tree.proofs.RelocatedTree.{tree-moved, sound-moved}
-use Rattle.tree.proofs.PlacedChildren.{placed-fit}
 use Rattle.tree.proofs.LargestUsed.{largest-low, largest-parent, largest-again, trimmed-tree}
 
 -- ---- the two cases of a step

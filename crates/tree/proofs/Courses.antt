@@ -11,10 +11,10 @@ use Rattle.rules.specs.WhatTheIndexDoes.{Profile, isRow}
 use Rattle.rules.specs.Table.{Cells, used, next, node}
 use Rattle.rules.specs.Insertion.{relocate, Course, grow, extend, insertFrom}
 use Rattle.rules.proofs.Choices.{branch, not-zero, neither}
-use Rattle.tree.specs.Moved.{Moved}
 use Rattle.tree.specs.Soundness.{Held, rowAt, Fruit, Tree}
-use Rattle.tree.proofs.UsedCells.{unused-parent}
+use Rattle.tree.specs.Moved.{Still, Moved}
 use Rattle.tree.proofs.Steps.{next-step}
+use Rattle.tree.proofs.UsedCells.{unused-parent}
 use Rattle.tree.proofs.Trees.{step-held, held-onward, held-end, fruit-weak}
 use Rattle.tree.proofs.Relocation.{node-moved, row-moved, s-stays}
 use Rattle.tree.proofs.RelocatedTree.{fruit-moved}
@@ -26,14 +26,14 @@ pub record Inserted (P : Profile) (T : Cells) (path : List ℕ) (n : ℕ) (cours
   pub meant : Meant P T path n (course .table)
   pub count : Moved T (course .table .cells) (course .count)
 
-none-moved : (T R : Cells) → ((r : List ℕ) → 1 ≤ node T r → node R r ≡ node T r) → Moved T R 0
-none-moved T R stays = record {
+none-moved : (T R : Cells) → Still T R → Moved T R 0
+none-moved T R still = record {
   parent = [];
   codes = [];
   once = tt;
   many = refl;
   each = λ d a. absurd a;
-  all = λ r k. absurd (k .now (stays r (k .was)));
+  all = λ r k. absurd (k .now (still r (k .was)));
 }
 
 module _ {P : Profile} (some : 1 ≤ P .greatest) (last n : ℕ) (row : isRow n ≡ true) {T : Cells} {size : ℕ} (w : Tree P T size) where
@@ -45,7 +45,7 @@ module _ {P : Profile} (some : 1 ≤ P .greatest) (last n : ℕ) (row : isRow n 
     plain clear =
         let p : Place P T s c = record { based = based; low = word-low P c cs wd; high = word-high P c cs some wd; clear = clear } in
         let g = grow-grown some last n row cs c path w wd e p (fruit-weak w s fruit) in
-        record { meant = g .meant; count = rw (grow-count last T size s c cs n) (none-moved T _ (g .stays)) }
+        record { meant = g .meant; count = rw (grow-count last T size s c cs n) (none-moved T _ (g .still)) }
 
     -- The branch grows where the children of s have moved.
     grown : next T s c ≡ 0 → Grown P (relocate T s (base′ w s c based)) (reverseAux (c ∷ cs) path) n (collided w s c based last cs n .table)
@@ -64,7 +64,7 @@ module _ {P : Profile} (some : 1 ≤ P .greatest) (last n : ℕ) (row : isRow n 
         let k = g .meant in
         record {
           meant = record { tree = k .tree; here = k .here; fruit = k .fruit; else = λ r d. k .else r d ∙ row-moved w (collide-fit w s c based) r };
-          count = collide-moved w s c based _ (g .stays) path e;
+          count = collide-moved w s c based _ (g .still) path e;
         })
         (λ f. plain (unused-parent T (T s .base + c) (neither (used T (T s .base + c)) (ltb last (T s .base + c)) f .0)))
 

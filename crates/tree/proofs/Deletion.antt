@@ -8,13 +8,13 @@ use native.Mathlib.Omega.{arith}
 use Rattle.rules.specs.WhatTheIndexDoes.{END, Profile, RoundTrip, isIdentifier, labels}
 use Rattle.rules.specs.Table.{Table, lookup}
 use Rattle.rules.specs.DeletionAndCompaction.{prune, deleted}
-use Rattle.tree.specs.AfterAnEdit.{Now, Trimmed}
 use Rattle.tree.specs.Soundness.{rowAt, Deep, Sound}
+use Rattle.tree.specs.AfterAnEdit.{Now, Trimmed}
 use Rattle.tree.proofs.Steps.{lookup-row}
-use Rattle.tree.proofs.Pruning.{Dropped, prune-dropped}
-use Rattle.tree.proofs.Compaction.{step-same, step-trims}
 use Rattle.tree.proofs.Identifiers.{path-labels}
 use Rattle.tree.proofs.OneIdentifier.{same-list?, path-now}
+use Rattle.tree.proofs.Pruning.{Dropped, prune-dropped}
+use Rattle.tree.proofs.Compaction.{step-same, step-trims}
 
 module _ {P : Profile} {t : Table} (w : Sound P t) (key : List ℕ) (live : 1 ≤ lookup P (t .cells) key) where
   -- The table with the leaf and the parents that it leaves childless freed.

@@ -17,8 +17,8 @@ use Rattle.rules.specs.WhatTheIndexDoes.{Profile}
 use Rattle.rules.specs.Table.{Content, Cells, Table, used}
 use Rattle.rules.specs.Rendering.{Kind, baseHolds, baseOf, checkOf, elements, renderBase, renderCheck, readCells, readTable}
 use Rattle.tree.specs.Soundness.{Tree, Sound}
-use Rattle.tree.proofs.Trees.{held-leaf, row-used, past-unused, past-free}
 use Rattle.tree.proofs.UsedCells.{parent-used, parentless-unused, unused-other}
+use Rattle.tree.proofs.Trees.{held-leaf, row-used, past-unused, past-free}
 
 module _ {P : Profile} {T : Cells} {size : ℕ} (w : Tree P T size) where
   leaf-baseless : (i : ℕ) → 1 ≤ T i .row → T i .base ≡ 0

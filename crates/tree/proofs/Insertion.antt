@@ -12,17 +12,17 @@ use Rattle.rules.specs.WhatTheIndexDoes.{END, Profile, RoundTrip, coded, isIden
 use Rattle.rules.specs.Table.{Table, node, lookup}
 use Rattle.rules.specs.Insertion.{inserted}
 use Rattle.rules.proofs.Choices.{both}
+use Rattle.tree.specs.Soundness.{rowAt, Bare, Deep, Sound}
+use Rattle.tree.specs.Moved.{Moved}
 use Rattle.tree.specs.Room.{Honest}
 use Rattle.tree.specs.AfterAnEdit.{Now}
-use Rattle.tree.specs.Moved.{Moved}
-use Rattle.tree.specs.Soundness.{rowAt, Bare, Deep, Sound}
 use Rattle.tree.proofs.Steps.{lookup-row}
 use Rattle.tree.proofs.Trees.{row-low, row-pos, bare-path}
-use Rattle.tree.proofs.Identifiers.{path-labels, path-length, identifier-coded, identifier-short}
-use Rattle.tree.proofs.OneIdentifier.{same-list?, path-now}
 use Rattle.tree.proofs.Branches.{Word, word-low, Meant}
 use Rattle.tree.proofs.Courses.{Inserted, insert-from}
 use Rattle.tree.proofs.Room.{insert-honest}
+use Rattle.tree.proofs.Identifiers.{path-labels, path-length, identifier-coded, identifier-short}
+use Rattle.tree.proofs.OneIdentifier.{same-list?, path-now}
 
 module _ {P : Profile} (trip : RoundTrip P) where
   word-labels : (b : ℕ) (bs : List ℕ) → coded P (b ∷ bs) ≡ true → Word P (P .code b) (labels P bs)

@@ -14,8 +14,8 @@ use Rattle.rules.specs.Table.{Cells, Table, next, walk, lookup}
 use Rattle.rules.specs.Listing.{Entry, listed, spelt, tried, visited, entries}
 use Rattle.rules.proofs.Choices.{branch}
 use Rattle.tree.specs.Soundness.{Step, Held, aLeaf, anInner, Tree, Sound}
-use Rattle.tree.specs.Members.{Among, Once}
 use Rattle.tree.specs.Listed.{Before, InOrder}
+use Rattle.tree.specs.Members.{Among, Once}
 use Rattle.tree.proofs.Steps.{next-step}
 use Rattle.tree.proofs.Trees.{row-low, row-pos, based-row, step-low, step-high, step-held}
 use Rattle.tree.proofs.Identifiers.{spelt-codes, identifier-short, walk-used, live-identifier}

@@ -12,8 +12,9 @@ use Rattle.rules.specs.Table.{Content, Cells, free}
 use Rattle.rules.specs.Insertion.{renamed, relocate}
 use Rattle.rules.proofs.Choices.{branch}
 use Rattle.tree.specs.Soundness.{Tree}
+use Rattle.tree.specs.Moved.{Fit}
 use Rattle.tree.specs.MovingInTurn.{under, hop, hops, rebase, inTurn}
-use Rattle.tree.proofs.Relocation.{Fit, M, ρ, Kept, s-pos, s-alone, child-far, child-near, to-child, to-other, to-place, place-clear, used-kept, parent-kept, moved-at, moved-from, to-own, s-moved}
+use Rattle.tree.proofs.Relocation.{M, ρ, Kept, s-pos, s-alone, child-far, child-near, to-child, to-other, to-place, place-clear, used-kept, parent-kept, moved-at, moved-from, to-own, s-moved}
 
 module _ (H : Cells) (t u : ℕ) where
   hop-new : hop H t u u ≡ H t

@@ -7,8 +7,8 @@ use Prim.Native.Nat.{ℕ}
 use native.Mathlib.Decide.{ℕ-discrete}
 use Rattle.rules.specs.WhatTheIndexDoes.{Profile, RoundTrip, isIdentifier, labels}
 use Rattle.rules.specs.Table.{Table}
-use Rattle.tree.specs.AfterAnEdit.{Now}
 use Rattle.tree.specs.Soundness.{rowAt, Sound}
+use Rattle.tree.specs.AfterAnEdit.{Now}
 use Rattle.tree.proofs.Steps.{lookup-row, lookup-same}
 use Rattle.tree.proofs.Identifiers.{path-inj, identifier-coded}
 

@@ -5,13 +5,13 @@ use Prim.Native.Nat.{ℕ, _+_, _≤_}
 use Rattle.rules.specs.WhatTheIndexDoes.{Profile}
 use Rattle.rules.specs.Table.{Cells, used, childCodes}
 use Rattle.rules.specs.Placement.{placed}
-use Rattle.tree.specs.Members.{Among}
 use Rattle.tree.specs.Soundness.{Step, Tree}
+use Rattle.tree.specs.Moved.{Fit}
+use Rattle.tree.specs.Members.{Among}
 use Rattle.tree.proofs.UsedCells.{unused-parent}
 use Rattle.tree.proofs.Trees.{past-unused}
 use Rattle.tree.proofs.Placement.{opens-each, placed-pos, placed-opens}
 use Rattle.tree.proofs.ChildCodes.{step-among}
-use Rattle.tree.proofs.Relocation.{Fit}
 
 -- The codes of the children of s are among cs.
 abbrev pub Include : Profile → Cells → ℕ → List ℕ → Type 0

@@ -8,8 +8,8 @@ use lib.Dec.{eqb}
 use borrow.Author.Tests.{eq-eqb, eqb-true}
 use Rattle.rules.specs.Listing.{Entry}
 use Rattle.rules.proofs.Choices.{branch, fails, both}
-use Rattle.tree.specs.Members.{Among}
 use Rattle.tree.specs.ThePlainList.{sameKey, rowIn, without}
+use Rattle.tree.specs.Members.{Among}
 
 -- ---- identifiers
 

@@ -12,9 +12,10 @@ use Rattle.rules.specs.Insertion.{relocate}
 use Rattle.rules.specs.DeletionAndCompaction.{prune}
 use Rattle.rules.proofs.Choices.{branch}
 use Rattle.tree.specs.Soundness.{Step, rowAt, Fruit, Bare, Tree}
+use Rattle.tree.specs.Moved.{Fit}
 use Rattle.tree.proofs.Trees.{based-pos, row-pos, based-row, held-leaf, step-held, step-far, last-step, one-path, fruit-weak, fruit-whole, bare-path}
 use Rattle.tree.proofs.ChildCodes.{childless-baseless, childless-alone, child-next}
-use Rattle.tree.proofs.Relocation.{Fit, row-moved, s-moved}
+use Rattle.tree.proofs.Relocation.{row-moved, s-moved}
 use Rattle.tree.proofs.RelocatedTree.{tree-moved, fruit-moved}
 use Rattle.tree.proofs.OneCell.{update-at, update-off, OneMore, path-less, row-other, row-gone, row-inner, fruit-less, tree-less}
 

@@ -20,8 +20,8 @@ use Rattle.rules.specs.Rendering.{Kind, readCells, readTable}
 use Rattle.rules.proofs.Choices.{branch, both, join, otherwise}
 use Rattle.rules.proofs.Ranges.{within-is, below, each-to, inside, some-to, to-each, to-some}
 use Rattle.tree.specs.Soundness.{Sits, Tree}
-use Rattle.tree.proofs.UsedCells.{parent-used, other-parent, unused-parent, unused-other, by-use}
 use Rattle.tree.proofs.Steps.{step-next, next-step}
+use Rattle.tree.proofs.UsedCells.{parent-used, other-parent, unused-parent, unused-other, by-use}
 use Rattle.tree.proofs.Trees.{step-used, step-far}
 use Rattle.tree.proofs.Elements.{same-content, read-base, read-row, read-parent}
 

@@ -9,9 +9,10 @@ use Rattle.rules.specs.WhatTheIndexDoes.{Profile, labels}
 use Rattle.rules.specs.Table.{Cells, free, next, lookup}
 use Rattle.rules.specs.Insertion.{renamed}
 use Rattle.tree.specs.Soundness.{Held, aLeaf, anInner, Fruit, Sits, Tree, Deep, Sound}
+use Rattle.tree.specs.Moved.{Fit}
 use Rattle.tree.proofs.Steps.{next-step, lookup-same}
 use Rattle.tree.proofs.Trees.{bare-step}
-use Rattle.tree.proofs.Relocation.{Fit, M, ρ, baseTo, s-pos, child-far, to-child, to-other, used-kept, low-kept, parent-kept, to-zero, to-one, to-pos, moved-at, moved-from, to-inj, base-other, base-after, base-before, step-to, next-moved, node-moved, row-moved}
+use Rattle.tree.proofs.Relocation.{M, ρ, baseTo, s-pos, child-far, to-child, to-other, used-kept, low-kept, parent-kept, to-zero, to-one, to-pos, moved-at, moved-from, to-inj, base-other, base-after, base-before, step-to, next-moved, node-moved, row-moved}
 
 module _ {P : Profile} {T : Cells} {size : ℕ} (w : Tree P T size) {s b q : ℕ} (m : Fit T s b q) where
   -- The cell t of before is the cell u afterwards.

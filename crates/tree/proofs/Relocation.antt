@@ -12,15 +12,9 @@ use Rattle.rules.specs.WhatTheIndexDoes.{Profile}
 use Rattle.rules.specs.Table.{Cells, free, next, node}
 use Rattle.rules.specs.Insertion.{to, renamed, moved}
 use Rattle.tree.specs.Soundness.{Step, rowAt, Tree}
+use Rattle.tree.specs.Moved.{Fit}
 use Rattle.tree.proofs.Steps.{step-next, step?}
 use Rattle.tree.proofs.Trees.{zero-parent, based-pos, live, step-used, no-loop, path-of}
-
--- q is a base to which the children of s, whose base is b, can move.
-pub record Fit (T : Cells) (s b q : ℕ) : Type 0 where
-  pub held : T s .base ≡ b
-  pub old : 1 ≤ b
-  pub new : 1 ≤ q
-  pub clear : (c : ℕ) → T (b + c) .parent ≡ s → T (q + c) .parent ≡ 0
 
 module _ {P : Profile} {T : Cells} {size : ℕ} (w : Tree P T size) {s b q : ℕ} (m : Fit T s b q) where
   abbrev pub M : Cells

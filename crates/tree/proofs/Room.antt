@@ -13,8 +13,8 @@ use Rattle.rules.specs.Table.{Cells, inner, update, used, next}
 use Rattle.rules.specs.Placement.{greatestOf, placed, fits}
 use Rattle.rules.specs.Insertion.{relocate, Course, grow, extend, insertFrom}
 use Rattle.rules.proofs.Choices.{branch, not-zero, neither}
-use Rattle.tree.specs.Room.{Honest}
 use Rattle.tree.specs.Soundness.{Tree}
+use Rattle.tree.specs.Room.{Honest}
 use Rattle.tree.proofs.Steps.{next-step}
 use Rattle.tree.proofs.Trees.{step-held, held-onward}
 use Rattle.tree.proofs.OneCell.{update-at}

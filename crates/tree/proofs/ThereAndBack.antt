@@ -11,7 +11,8 @@ use Rattle.rules.specs.WhatTheIndexDoes.{Profile}
 use Rattle.rules.specs.Table.{Cells}
 use Rattle.rules.specs.Insertion.{renamed, moved, relocate}
 use Rattle.tree.specs.Soundness.{Tree}
-use Rattle.tree.proofs.Relocation.{Fit, M, ρ, baseTo, Kept, s-pos, s-stays, child-near, to-child, to-other, to-place, place-clear, place-from, used-kept, parent-kept, moved-at, moved-from, left-free, to-s, to-own, s-moved}
+use Rattle.tree.specs.Moved.{Fit}
+use Rattle.tree.proofs.Relocation.{M, ρ, baseTo, Kept, s-pos, s-stays, child-near, to-child, to-other, to-place, place-clear, place-from, used-kept, parent-kept, moved-at, moved-from, left-free, to-s, to-own, s-moved}
 use Rattle.tree.proofs.RelocatedTree.{tree-moved}
 
 module _ {P : Profile} {T : Cells} {size : ℕ} (w : Tree P T size) {s b q : ℕ} (m : Fit T s b q) where

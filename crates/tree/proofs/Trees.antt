@@ -6,16 +6,16 @@ use mathlib.Core.Bool.{true, false}
 use mathlib.Core.List.{List, [], _∷_, reverseAux}
 use Prim.Native.Nat.{ℕ, _≤_, _<_}
 use native.Mathlib.Omega.{arith}
-use borrow.Author.Tests.{leb-true}
 use lib.ListN.{length, length-reverseAux}
+use borrow.Author.Tests.{leb-true}
 use Rattle.numbers.proofs.Cases.{same?, some?}
 use Rattle.rules.specs.Ranges.{within}
 use Rattle.rules.specs.WhatTheIndexDoes.{Profile, isRow}
 use Rattle.rules.specs.Table.{Content, Cells, free, used, next, walk, node}
 use Rattle.rules.proofs.Choices.{both}
 use Rattle.tree.specs.Soundness.{Step, Held, aLeaf, anInner, Fruit, Bare, Tree}
-use Rattle.tree.proofs.UsedCells.{parentless-unused}
 use Rattle.tree.proofs.Steps.{parent-cell, base-cell, step-next, next-step, walk-node}
+use Rattle.tree.proofs.UsedCells.{parentless-unused}
 
 -- ---- what a cell holds
 
