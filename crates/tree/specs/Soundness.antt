@@ -24,7 +24,7 @@ pub data Held (c : ℕ) (x : Content) : Type 0 where
 abbrev pub rowAt : Cells → List ℕ → ℕ
 rowAt T path = T (node T path) .row
 
--- Every inner cell but x and the root has a child.
+-- Every inner cell but x and the root has a child. 0 is no cell, so that `Fruit T 0` speaks of all of them.
 abbrev pub Fruit : Cells → ℕ → Type 0
 Fruit T x = (u : ℕ) → u ≢ x → 1 ≤ T u .parent → 1 ≤ T u .base → (c : ℕ) × (1 ≤ next T u c)
 

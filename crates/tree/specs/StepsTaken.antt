@@ -11,7 +11,7 @@ unfoldable pub after : Profile → ℕ → Table → Table
 after P zero t = t
 after P (suc k) t = after P k (compactionStep P t .table)
 
--- A step that moves: the children of a cell go to a smaller base, and the size falls to the largest used cell.
+-- A step that moves: the children of a cell go to a smaller base.
 pub record Lowers (P : Profile) (t : Table) : Type 0 where
   pub cell : ℕ
   pub base : ℕ
