@@ -53,11 +53,10 @@ module _ {P : Profile} (trip : RoundTrip P) (last : ℕ) where
         let room = leb-true _ _ (sym (inserted-honest trip last (a .sound) key n k (a .fits)) ∙ fitted) in
         now-agrees es (e ∷ es) key n a (inserted-now trip last (a .sound) key n k row absent) room (put-own e es) (put-else e es)
 
-    deleted-agrees : (key : List ℕ) → isIdentifier P key ≡ true → 1 ≤ lookup P (t .cells) key →
-        Agrees P last (deleted P t key) (without es key)
-    deleted-agrees key k live =
-        let fits : deleted P t key .size ≤ last = omega (arith, a .fits, deleted-less (a .sound) key live) in
-        let now = deleted-now (a .sound) key live trip k in
+    deleted-agrees : (key : List ℕ) → 1 ≤ lookup P (t .cells) key → Agrees P last (deleted P t key) (without es key)
+    deleted-agrees key live =
+        let fits : deleted P t key .size ≤ last = omega (arith, a .fits, deleted-less (a .sound) key live trip) in
+        let now = deleted-now (a .sound) key live trip in
         now-agrees es (without es key) key 0 a now fits (without-own es key) (without-else es key)
 
     compacted-agrees : (n : ℕ) → Agrees P last (compacted P n t .table) es
@@ -79,7 +78,7 @@ module _ {P : Profile} (trip : RoundTrip P) (last : ℕ) where
         (λ f. record { answer = refl; left = inserted-agrees key n k row (omega (arith, a .rows key k, ltb-false 0 (rowIn es key) h)) f })
         (λ f. record { answer = refl; left = a })))
     carried-together (delete key) k row = rw (a .rows key k) (branch₂ (Together P last) (ltb 0 (rowIn es key))
-        (λ h. record { answer = refl; left = deleted-agrees key k (omega (arith, a .rows key k, ltb-true 0 (rowIn es key) h)) })
+        (λ h. record { answer = refl; left = deleted-agrees key (omega (arith, a .rows key k, ltb-true 0 (rowIn es key) h)) })
         (λ h. record { answer = refl; left = a }))
     carried-together (find key) k row = rw (a .rows key k) (branch₂ (Together P last) (ltb 0 (rowIn es key))
         (λ h. record { answer = refl; left = a })

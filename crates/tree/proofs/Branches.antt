@@ -12,6 +12,7 @@ use Rattle.rules.specs.Placement.{placed}
 use Rattle.rules.specs.Insertion.{grow}
 use Rattle.tree.specs.Soundness.{Step, Held, aLeaf, anInner, rowAt, Fruit, Sits, Tree}
 use Rattle.tree.specs.Moved.{Still}
+use Rattle.tree.specs.AfterAnEdit.{Meant}
 use Rattle.tree.proofs.Steps.{step-next}
 use Rattle.tree.proofs.UsedCells.{unused-parent}
 use Rattle.tree.proofs.Trees.{past-unused, based-pos, one-path}
@@ -127,13 +128,6 @@ used-same T t x y e u = ⊎-elim own (λ d. rw (update-off T t x u d, update-off
   where
     own : u ≡ t → update T t x u .parent ≡ update T t y u .parent
     own f = rw (f, update-at T t x, update-at T t y) e
-
--- R is a tree with the row n at the path, and otherwise with the rows of T.
-pub record Meant (P : Profile) (T : Cells) (path : List ℕ) (n : ℕ) (R : Table) : Type 0 where
-  pub tree : Tree P (R .cells) (R .size)
-  pub here : rowAt (R .cells) path ≡ n
-  pub else : (r : List ℕ) → r ≢ path → rowAt (R .cells) r ≡ rowAt T r
-  pub fruit : Fruit (R .cells) 0
 
 pub grow-count : (last : ℕ) (T : Cells) (size s c : ℕ) (cs : List ℕ) (n : ℕ) → grow last T size s c cs n .count ≡ 0
 unfolding grow

@@ -13,7 +13,7 @@ use Rattle.rules.specs.Insertion.{relocate}
 use Rattle.rules.specs.DeletionAndCompaction.{Moves, trimmed, compactionStep, compactionSteps, compacted}
 use Rattle.rules.proofs.Choices.{branch, both}
 use Rattle.tree.specs.Soundness.{Sound}
-use Rattle.tree.specs.AfterAnEdit.{Same, Trimmed}
+use Rattle.tree.specs.AfterAnEdit.{Now, Same, Trimmed}
 use Rattle.tree.proofs.Steps.{step-next, lookup-same}
 use Rattle.tree.proofs.PlacedChildren.{placed-fit}
 use Rattle.tree.proofs.Relocation.{s-pos, row-moved}
@@ -56,6 +56,14 @@ module _ {P : Profile} where
 
   pub same-lookup : {t t′ : Table} → Same P t t′ → (key : List ℕ) → lookup P (t′ .cells) key ≡ lookup P (t .cells) key
   same-lookup {t} {t′} a key = lookup-same (t .cells) (t′ .cells) P key (a .rows (reverse (labels P key)))
+
+  -- What an edit meant is still meant.
+  pub same-now : {t t′ t″ : Table} {key : List ℕ} {n : ℕ} → Now P t key n t′ → Same P t′ t″ → Now P t key n t″
+  same-now {key = key} a b = record {
+    sound = b .sound;
+    here = same-lookup b key ∙ a .here;
+    else = λ j h d. same-lookup b j ∙ a .else j h d;
+  }
 
   same-self : {t : Table} → Sound P t → Same P t t
   same-self w = record { sound = w; rows = λ r. refl; less = omega arith }

@@ -13,12 +13,13 @@ use Rattle.rules.specs.Insertion.{relocate, Course, grow, extend, insertFrom}
 use Rattle.rules.proofs.Choices.{branch, not-zero, neither}
 use Rattle.tree.specs.Soundness.{Held, rowAt, Fruit, Tree}
 use Rattle.tree.specs.Moved.{Still, Moved}
+use Rattle.tree.specs.AfterAnEdit.{Meant}
 use Rattle.tree.proofs.Steps.{next-step}
 use Rattle.tree.proofs.UsedCells.{unused-parent}
 use Rattle.tree.proofs.Trees.{step-held, held-onward, held-end, fruit-weak}
 use Rattle.tree.proofs.Relocation.{node-moved, row-moved, s-stays}
 use Rattle.tree.proofs.RelocatedTree.{fruit-moved}
-use Rattle.tree.proofs.Branches.{Place, Word, word-low, word-high, grow-count, Meant, Grown, grow-grown}
+use Rattle.tree.proofs.Branches.{Place, Word, word-low, word-high, grow-count, Grown, grow-grown}
 use Rattle.tree.proofs.Collisions.{base′, collided, collide-fit, collide-tree, collide-place, collide-moved}
 
 -- What an insertion means: `Meant`, and its count.

@@ -1,28 +1,26 @@
 -- What inserting an identifier means for lookups, and that the table stays sound. Assumes nothing.
-use mathlib.Core.Path.{_≡_, refl, sym, ap, _∙_}
-use mathlib.Core.Logic.{⊎-elim}
+use mathlib.Core.Path.{_≡_, refl, sym, _∙_}
 use mathlib.Core.Bool.{true}
 use mathlib.Core.List.{List, [], _∷_, map, reverse}
-use Prim.Native.Nat.{ℕ, suc, _≤_}
+use Prim.Native.Nat.{ℕ, _≤_}
 use native.Mathlib.Omega.{arith}
-use lib.ListN.{length}
 use lib.Dec.{leb}
 use borrow.Author.Tests.{leb-true}
 use Rattle.rules.specs.WhatTheIndexDoes.{END, Profile, RoundTrip, coded, isIdentifier, labels, isRow}
 use Rattle.rules.specs.Table.{Table, node, lookup}
 use Rattle.rules.specs.Insertion.{inserted}
 use Rattle.rules.proofs.Choices.{both}
-use Rattle.tree.specs.Soundness.{rowAt, Bare, Deep, Sound}
+use Rattle.tree.specs.Soundness.{rowAt, Bare, Sound}
 use Rattle.tree.specs.Moved.{Moved}
 use Rattle.tree.specs.Room.{Honest}
-use Rattle.tree.specs.AfterAnEdit.{Now}
+use Rattle.tree.specs.AfterAnEdit.{Meant, Now}
 use Rattle.tree.proofs.Steps.{lookup-row}
 use Rattle.tree.proofs.Trees.{row-low, row-pos, bare-path}
-use Rattle.tree.proofs.Branches.{Word, word-low, Meant}
+use Rattle.tree.proofs.Branches.{Word, word-low}
 use Rattle.tree.proofs.Courses.{Inserted, insert-from}
 use Rattle.tree.proofs.Room.{insert-honest}
-use Rattle.tree.proofs.Identifiers.{path-labels, path-length, identifier-coded, identifier-short}
-use Rattle.tree.proofs.OneIdentifier.{same-list?, path-now}
+use Rattle.tree.proofs.Identifiers.{path-labels, identifier-coded, identifier-short}
+use Rattle.tree.proofs.OneIdentifier.{meant-now}
 
 module _ {P : Profile} (trip : RoundTrip P) where
   word-labels : (b : ℕ) (bs : List ℕ) → coded P (b ∷ bs) ≡ true → Word P (P .code b) (labels P bs)
@@ -43,31 +41,16 @@ module _ {P : Profile} (trip : RoundTrip P) where
         let gone = sym (lookup-row (t .cells) P (b ∷ bs)) ∙ absent in
         insert-from some last n row (w .tree) (w .fruit) (labels P bs) (P .code b) 1 [] wd refl (w .tree .root-base) gone
 
-    inserted-deep : (key : List ℕ) (n : ℕ) (t′ : Table) → isIdentifier P key ≡ true → Meant P (t .cells) (reverse (labels P key)) n t′ →
-        Deep P (t′ .cells)
-    inserted-deep key n t′ k m path h = ⊎-elim own (λ d. w .deep path (rw (m .else path d) at h)) (same-list? path (reverse (labels P key)))
-      where
-        own : path ≡ reverse (labels P key) → (2 ≤ length path) × (length path ≤ suc (P .limit))
-        own e =
-            let (low, high) = identifier-short P key k in
-            let z : length path ≡ suc (length key) = ap (λ (r : List ℕ). length r) e ∙ path-length P key in
-            (omega arith, omega arith)
-
-    inserted-sound : (key : List ℕ) (n : ℕ) (t′ : Table) → isIdentifier P key ≡ true → isRow n ≡ true →
-        Meant P (t .cells) (reverse (labels P key)) n t′ → Sound P t′
-    inserted-sound key n t′ k row m = record { tree = m .tree; fruit = m .fruit; bare = bare; deep = inserted-deep key n t′ k m }
-      where
-        bare : Bare (t′ .cells)
-        bare =
-            let e : rowAt (t′ .cells) (END ∷ reverse (map (P .code) key)) ≡ n = rw (path-labels P key) at (m .here) in
-            bare-path (m .tree) (reverse (map (P .code) key)) END (row-pos (m .tree) _ (rw e (row-low row)))
+    -- Where a row is, the root has a child.
+    row-bare : {t′ : Table} (key : List ℕ) (n : ℕ) → isRow n ≡ true → Meant P (t .cells) (reverse (labels P key)) n t′ → Bare (t′ .cells)
+    row-bare {t′} key n row m =
+        let e : rowAt (t′ .cells) (END ∷ reverse (map (P .code) key)) ≡ n = rw (path-labels P key) at (m .here) in
+        bare-path (m .tree) (reverse (map (P .code) key)) END (row-pos (m .tree) _ (rw e (row-low row)))
 
     module _ (key : List ℕ) (n : ℕ) (k : isIdentifier P key ≡ true) (row : isRow n ≡ true) (absent : lookup P (t .cells) key ≡ 0) where
       -- The new identifier has its row, every other what it had.
       pub inserted-now : Now P t key n (inserted P last t key n .table)
-      inserted-now =
-          let m = inserted-path key n k row absent .meant in
-          path-now trip key n k (inserted-sound key n (inserted P last t key n .table) k row m) (m .here) (m .else)
+      inserted-now = let m = inserted-path key n k row absent .meant in meant-now w key n k trip m (row-bare key n row m)
 
       -- The count is the number of children that changed cell.
       pub inserted-count : Moved (t .cells) (inserted P last t key n .table .cells) (inserted P last t key n .count)

@@ -13,6 +13,7 @@ use Rattle.rules.specs.DeletionAndCompaction.{prune}
 use Rattle.rules.proofs.Choices.{branch}
 use Rattle.tree.specs.Soundness.{Step, rowAt, Fruit, Bare, Tree}
 use Rattle.tree.specs.Moved.{Fit}
+use Rattle.tree.specs.AfterAnEdit.{Meant}
 use Rattle.tree.proofs.Trees.{based-pos, row-pos, based-row, held-leaf, step-held, step-far, last-step, one-path, fruit-weak, fruit-whole, bare-path}
 use Rattle.tree.proofs.ChildCodes.{childless-baseless, childless-alone, child-next}
 use Rattle.tree.proofs.Relocation.{row-moved, s-moved}
@@ -26,12 +27,9 @@ record Alike (P : Profile) (T : Cells) (size : ℕ) (R : Cells) : Type 0 where
   fruit : Fruit R 0
   bare : Bare R
 
--- R is a tree without a row at the path, and otherwise with the rows of T.
+-- R means T without the row at the path, and a bare root has base 1.
 pub record Dropped (P : Profile) (T : Cells) (size : ℕ) (path : List ℕ) (R : Cells) : Type 0 where
-  pub tree : Tree P R size
-  pub here : rowAt R path ≡ 0
-  pub else : (r : List ℕ) → r ≢ path → rowAt R r ≡ rowAt T r
-  pub fruit : Fruit R 0
+  pub meant : Meant P T path 0 (record { cells = R; size = size })
   pub bare : Bare R
 
 -- T is a tree whose inner cell x may be without a child.
@@ -81,10 +79,12 @@ module _ {P : Profile} {T : Cells} {size : ℕ} (w : Tree P T size) (c : ℕ) (p
 
     leaf-dropped : {R : Cells} → Alike P Less size R → Dropped P T size (c ∷ path) R
     leaf-dropped k = record {
-      tree = k .tree;
-      here = k .rows (c ∷ path) ∙ row-gone one-less (c ∷ path) refl;
-      else = λ r d. k .rows r ∙ sym (row-other one-less r (λ e. d (one-path w r (c ∷ path) e refl pos)));
-      fruit = k .fruit;
+      meant = record {
+        tree = k .tree;
+        here = k .rows (c ∷ path) ∙ row-gone one-less (c ∷ path) refl;
+        else = λ r d. k .rows r ∙ sym (row-other one-less r (λ e. d (one-path w r (c ∷ path) e refl pos)));
+        fruit = k .fruit;
+      };
       bare = k .bare;
     }
 

@@ -5,8 +5,15 @@ use mathlib.Core.Bool.{true}
 use mathlib.Core.List.{List}
 use Prim.Native.Nat.{ℕ, _≤_}
 use Rattle.rules.specs.WhatTheIndexDoes.{Profile, isIdentifier}
-use Rattle.rules.specs.Table.{Table, largestUsed, lookup}
-use Rattle.tree.specs.Soundness.{rowAt, Sound}
+use Rattle.rules.specs.Table.{Cells, Table, largestUsed, lookup}
+use Rattle.tree.specs.Soundness.{rowAt, Fruit, Tree, Sound}
+
+-- R is a tree with the row n at the path (0: none), and otherwise with the rows of T; every inner cell has a child.
+pub record Meant (P : Profile) (T : Cells) (path : List ℕ) (n : ℕ) (R : Table) : Type 0 where
+  pub tree : Tree P (R .cells) (R .size)
+  pub here : rowAt (R .cells) path ≡ n
+  pub else : (r : List ℕ) → r ≢ path → rowAt (R .cells) r ≡ rowAt T r
+  pub fruit : Fruit (R .cells) 0
 
 -- The table t′ is sound, has the row n at key (0: none), and at any other identifier what t has.
 pub record Now (P : Profile) (t : Table) (key : List ℕ) (n : ℕ) (t′ : Table) : Type 0 where
