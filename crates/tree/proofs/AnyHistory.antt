@@ -11,7 +11,7 @@ use lib.Dec.{ltb}
 use borrow.Author.Tests.{ltb-true, ltb-false, leb-true}
 use Rattle.numbers.proofs.Cases.{some?}
 use Rattle.rules.specs.WhatTheIndexDoes.{Profile, RoundTrip, isIdentifier, isRow, lastCell}
-use Rattle.rules.specs.Table.{Table, lookup}
+use Rattle.rules.specs.Table.{Table, empty, lookup}
 use Rattle.rules.specs.ASoundTable.{sound}
 use Rattle.rules.specs.Insertion.{inserted}
 use Rattle.rules.specs.DeletionAndCompaction.{deleted, compacted}
@@ -28,6 +28,7 @@ use Rattle.tree.proofs.Compaction.{same-lookup, compacted-same}
 use Rattle.tree.proofs.Deletion.{deleted-now, deleted-less}
 use Rattle.tree.proofs.SevenRules.{rules-render}
 use Rattle.tree.proofs.Listing.{listed-live, live-listed}
+use Rattle.tree.proofs.EmptyTable.{empty-sound, empty-lookup}
 use Rattle.tree.proofs.PlainList.{put-own, put-else, without-own, without-else, row-in}
 
 module _ {P : Profile} (trip : RoundTrip P) (last : ℕ) where
@@ -118,6 +119,13 @@ module _ {P : Profile} (trip : RoundTrip P) (last : ℕ) where
       let h = history P last t (entries P (t .cells)) cs in
       (h .answers ≡ h .replies) × Agrees P last (h .table) (h .list)
   any-history {t} w fits cs = history-agrees cs (entries P (t .cells)) (entries-agree w fits)
+
+  -- From nothing: the empty table and the empty list.
+  pub built-history : 1 ≤ last → (cs : List Command) →
+      let h = history P last empty [] cs in
+      (h .answers ≡ h .replies) × Agrees P last (h .table) (h .list)
+  unfolding empty rowIn
+  built-history room cs = history-agrees cs [] (record { sound = empty-sound P; fits = room; rows = λ key k. empty-lookup P key })
 
 -- From any two arrays that the audit passes.
 pub audited-history : {P : Profile} → RoundTrip P → (base check : List ℤ) → sound P base check ≡ true → (cs : List Command) →

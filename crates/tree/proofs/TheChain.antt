@@ -1,7 +1,8 @@
 -- The chain of empty cells as a table is rendered: it names every free cell up to the size, once each and ascending, and ends
 -- at size + 1. Assumes nothing.
-use mathlib.Core.Path.{_≡_, refl, ap, _∙_}
-use mathlib.Core.Bool.{Bool, true, false, cond, not, _||_}
+use mathlib.Core.Path.{_≡_, refl, sym, ap, _∙_}
+use mathlib.Core.Logic.{_≢_, inl, inr, ⊎-elim}
+use mathlib.Core.Bool.{Bool, true, false, cond, not, _||_, true≢false}
 use mathlib.Core.List.{List, [], _∷_, _++_}
 use Prim.Native.Nat.{ℕ, zero, suc, _+_, _≤_, _<_}
 use native.Mathlib.Omega.{arith}
@@ -10,16 +11,57 @@ use lib.Dec.{leb, ltb}
 use borrow.Author.Tests.{lt-ltb, le-ltb, le-leb, lt-leb}
 use Rattle.numbers.specs.Stored.{minusOf, minusAt}
 use Rattle.numbers.proofs.Laws.{minus-negative}
+use Rattle.numbers.proofs.Cases.{same?}
 use Rattle.rules.specs.Ranges.{firstFrom}
 use Rattle.rules.specs.WhatTheIndexDoes.{Profile}
 use Rattle.rules.specs.Table.{Table, used}
 use Rattle.rules.specs.Rendering.{chained, nextFree, renderCheck}
+use Rattle.rules.proofs.Choices.{branch}
 use Rattle.rules.proofs.Ranges.{first-least, first-low}
 use Rattle.tree.specs.Soundness.{Sound}
-use Rattle.tree.specs.TheChain.{linksFrom, unusedFrom}
+use Rattle.tree.specs.TheChain.{linksFrom, unusedFrom, Unused}
+use Rattle.tree.specs.Members.{Among, Rising}
 use Rattle.tree.proofs.UsedCells.{parentless-unused}
 use Rattle.tree.proofs.Trees.{zero-parent}
 use Rattle.tree.proofs.Elements.{check-link, check-at}
+
+-- ---- the list of the unused cells
+
+module _ (u : ℕ → Bool) where
+  -- v is an unused one of the n cells from i on.
+  abbrev IsUnused : ℕ → ℕ → ℕ → Type 0
+  IsUnused n i v = (i ≤ v) × (v < i + n) × (u v ≡ false)
+
+  one-earlier : (n i v : ℕ) → IsUnused n (suc i) v → IsUnused (suc n) i v
+  one-earlier n i v (low, high, f) = (omega arith, omega arith, f)
+
+  unused-each : (n i v : ℕ) → Among v (unusedFrom u n i) → IsUnused n i v
+  unfolding unusedFrom
+  unused-each zero i v = λ a. absurd a
+  unused-each (suc n) i v = branch (λ (vs : List ℕ). Among v vs → IsUnused (suc n) i v) (u i) (λ _ a. one-earlier n i v (unused-each n (suc i) v a))
+      (λ f. ⊎-elim (λ e. (omega arith, omega arith, ap u e ∙ f)) (λ a. one-earlier n i v (unused-each n (suc i) v a)))
+
+  unused-all : (n i v : ℕ) → i ≤ v → v < i + n → u v ≡ false → Among v (unusedFrom u n i)
+  unfolding unusedFrom
+  unused-all zero i v low high f = absurd (omega arith)
+  unused-all (suc n) i v low high f = branch (λ (vs : List ℕ). Among v vs) (u i)
+      (λ t. let d : v ≢ i = (λ e. true≢false (sym t ∙ ap u (sym e) ∙ f)) in unused-all n (suc i) v (omega arith) (omega arith) f)
+      (λ _. ⊎-elim (λ e. inl e) (λ d. inr (unused-all n (suc i) v (omega arith) (omega arith) f)) (same? v i))
+
+  unused-rising : (n i : ℕ) → Rising (unusedFrom u n i)
+  unfolding unusedFrom
+  unused-rising zero i = tt
+  unused-rising (suc n) i = branch (λ (vs : List ℕ). Rising vs) (u i) (λ _. unused-rising n (suc i))
+      (λ _. (λ v a. let (low, high, f) = unused-each n (suc i) v a in omega arith, unused-rising n (suc i)))
+
+  pub unused-cells : (size : ℕ) → Unused u size (unusedFrom u size 1)
+  unused-cells size = record {
+    each = λ v a. let (low, high, f) = unused-each size 1 v a in (low, omega arith, f);
+    all = λ v low high f. unused-all size 1 v low (omega arith) f;
+    rising = unused-rising size 1;
+  }
+
+-- ---- the chain
 
 module _ (u : ℕ → Bool) (size : ℕ) where
   abbrev ends : ℕ → Bool
