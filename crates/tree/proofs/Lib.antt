@@ -43,3 +43,4 @@ pub mod Listing
 pub mod EmptyTable
 pub mod PlainList
 pub mod AnyHistory
+pub mod AnExample
