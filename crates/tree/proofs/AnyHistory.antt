@@ -38,13 +38,13 @@ module _ {P : Profile} (trip : RoundTrip P) (last : ℕ) where
   now-agrees : {t t′ : Table} (es es′ : List Entry) (key : List ℕ) (n : ℕ) → Agrees P last t es → Now P t key n t′ → t′ .size ≤ last →
       rowIn es′ key ≡ n → ((j : List ℕ) → j ≢ key → rowIn es′ j ≡ rowIn es j) → Agrees P last t′ es′
   now-agrees {t} {t′} es es′ key n a now fits here else =
-      record { sound = now .sound; fits = fits; rows = λ j k. ⊎-elim (own j) (other j k) (same-list? j key) }
+      record { sound = now .sound; fits = fits; rows = λ j. ⊎-elim (own j) (other j) (same-list? j key) }
     where
       own : (j : List ℕ) → j ≡ key → lookup P (t′ .cells) j ≡ rowIn es′ j
       own j e = rw e (now .here ∙ sym here)
 
-      other : (j : List ℕ) → isIdentifier P j ≡ true → j ≢ key → lookup P (t′ .cells) j ≡ rowIn es′ j
-      other j k d = now .else j k d ∙ a .rows j k ∙ sym (else j d)
+      other : (j : List ℕ) → j ≢ key → lookup P (t′ .cells) j ≡ rowIn es′ j
+      other j d = now .else j d ∙ a .rows j ∙ sym (else j d)
 
   module _ {t : Table} (es : List Entry) (a : Agrees P last t es) where
     inserted-agrees : (key : List ℕ) (n : ℕ) → isIdentifier P key ≡ true → isRow n ≡ true → lookup P (t .cells) key ≡ 0 →
@@ -56,7 +56,7 @@ module _ {P : Profile} (trip : RoundTrip P) (last : ℕ) where
 
     deleted-agrees : (key : List ℕ) → 1 ≤ lookup P (t .cells) key → Agrees P last (deleted P t key) (without es key)
     deleted-agrees key live =
-        let fits : deleted P t key .size ≤ last = omega (arith, a .fits, deleted-less (a .sound) key live trip) in
+        let fits : deleted P t key .size ≤ last = omega (arith, a .fits, deleted-less P t key (a .sound .tree .some)) in
         let now = deleted-now (a .sound) key live trip in
         now-agrees es (without es key) key 0 a now fits (without-own es key) (without-else es key)
 
@@ -66,22 +66,22 @@ module _ {P : Profile} (trip : RoundTrip P) (last : ℕ) where
         record {
           sound = s .sound;
           fits = omega (arith, s .less, a .fits);
-          rows = λ key k. same-lookup s key ∙ a .rows key k;
+          rows = λ key. same-lookup s key ∙ a .rows key;
         }
 
     -- A command whose identifier and number are allowed.
     carried-together : (c : Command) → keyAllowed P c ≡ true → numberAllowed c ≡ true →
         Together P last (carriedOut P last t c) (heard P (told P last t c) es c)
     unfolding keyAllowed numberAllowed carriedOut heard told
-    carried-together (insert key n) k row = rw (a .rows key k) (branch₂ (Together P last) (ltb 0 (rowIn es key))
+    carried-together (insert key n) k row = rw (a .rows key) (branch₂ (Together P last) (ltb 0 (rowIn es key))
         (λ h. record { answer = refl; left = a })
         (λ h. branch₂ (Together P last) (inserted P last t key n .fitted)
-        (λ f. record { answer = refl; left = inserted-agrees key n k row (omega (arith, a .rows key k, ltb-false 0 (rowIn es key) h)) f })
+        (λ f. record { answer = refl; left = inserted-agrees key n k row (omega (arith, a .rows key, ltb-false 0 (rowIn es key) h)) f })
         (λ f. record { answer = refl; left = a })))
-    carried-together (delete key) k row = rw (a .rows key k) (branch₂ (Together P last) (ltb 0 (rowIn es key))
-        (λ h. record { answer = refl; left = deleted-agrees key (omega (arith, a .rows key k, ltb-true 0 (rowIn es key) h)) })
+    carried-together (delete key) k row = rw (a .rows key) (branch₂ (Together P last) (ltb 0 (rowIn es key))
+        (λ h. record { answer = refl; left = deleted-agrees key (omega (arith, a .rows key, ltb-true 0 (rowIn es key) h)) })
         (λ h. record { answer = refl; left = a }))
-    carried-together (find key) k row = rw (a .rows key k) (branch₂ (Together P last) (ltb 0 (rowIn es key))
+    carried-together (find key) k row = rw (a .rows key) (branch₂ (Together P last) (ltb 0 (rowIn es key))
         (λ h. record { answer = refl; left = a })
         (λ h. record { answer = refl; left = a }))
     carried-together (compact n) k row = record { answer = refl; left = compacted-agrees n }
@@ -109,7 +109,7 @@ module _ {P : Profile} (trip : RoundTrip P) (last : ℕ) where
   entries-agree {t} w fits = record {
     sound = w;
     fits = fits;
-    rows = λ key k. row-in (λ (n : ℕ). lookup P (t .cells) key ≡ n) (entries P (t .cells)) key
+    rows = λ key. row-in (λ (n : ℕ). lookup P (t .cells) key ≡ n) (entries P (t .cells)) key
         (λ e a f. ap (lookup P (t .cells)) (sym f) ∙ listed-live trip w e a .1)
         (λ none. ⊎-elim (λ z. z) (λ h. absurd (none _ (live-listed trip w key h) refl)) (some? (lookup P (t .cells) key)));
   }
@@ -125,7 +125,7 @@ module _ {P : Profile} (trip : RoundTrip P) (last : ℕ) where
       let h = history P last empty [] cs in
       (h .answers ≡ h .replies) × Agrees P last (h .table) (h .list)
   unfolding empty rowIn
-  built-history room cs = history-agrees cs [] (record { sound = empty-sound P; fits = room; rows = λ key k. empty-lookup P key })
+  built-history room cs = history-agrees cs [] (record { sound = empty-sound P; fits = room; rows = λ key. empty-lookup P key })
 
 -- From any two arrays that the audit passes.
 pub audited-history : {P : Profile} → RoundTrip P → (base check : List ℤ) → sound P base check ≡ true → (cs : List Command) →

@@ -167,7 +167,7 @@ module _ {P : Profile} (some : 1 ≤ P .greatest) (last n : ℕ) (row : isRow n 
       let one = update T t (inner s 1) in
       let past = past-unused (put-tree w (a 1 (omega arith))) in
       let q = placed (used one) (max size t) (d ∷ []) in
-      let q-pos = placed-pos (used one) (max size t) past (d ∷ []) in
+      let q-pos = placed-pos (used one) (max size t) (d ∷ []) in
       let w′ = a q q-pos in
       let q-opens = opens-each (used one) (d ∷ []) q d (placed-opens (used one) (max size t) past (d ∷ [])) (inl refl) in
       let next = further T t s q d cs (wd .2) q-opens q-pos in

@@ -17,8 +17,8 @@ use Rattle.rules.specs.Table.{Cells, next, node}
 use Rattle.rules.specs.ASoundTable.{home}
 use Rattle.rules.specs.Rendering.{readCells}
 use Rattle.tree.specs.Soundness.{Held, aLeaf, anInner, rowAt, Fruit, Sits, Tree, Deep}
-use Rattle.tree.proofs.Steps.{step-next, next-step}
-use Rattle.tree.proofs.Trees.{row-low, used-pos, based-pos, step-used, step-far, last-step, one-path}
+use Rattle.tree.proofs.Steps.{step-next, next-step, last-step}
+use Rattle.tree.proofs.Trees.{row-low, used-pos, based-pos, step-used, step-far, one-path}
 use Rattle.tree.proofs.Elements.{read-parent}
 
 -- ---- no path to a used cell is longer than a leaf's may be
@@ -85,7 +85,7 @@ module _ (base check : List ℤ) where
     path-home [] e h k l = root-home k (sym e)
     path-home (c ∷ path) e h zero l = absurd (omega arith)
     path-home (c ∷ path) {t} e h (suc k) l =
-        let p = last-step w c path e h in
+        let p = last-step T c path e h in
         let v = sym (read-parent base check t (step-far w p)) ∙ p .back in
         rw (v, path-home path refl (based-pos w (node T path) (p .based)) k (le-of-suc-le-suc l), or-true)
 

@@ -16,8 +16,8 @@ use Rattle.rules.proofs.Choices.{branch}
 use Rattle.tree.specs.Soundness.{Tree}
 use Rattle.tree.specs.Moved.{Fit, Still, Changed, Moved}
 use Rattle.tree.specs.Members.{Among, Once}
-use Rattle.tree.proofs.Steps.{step-next, next-step}
-use Rattle.tree.proofs.Trees.{last-step, one-path}
+use Rattle.tree.proofs.Steps.{step-next, next-step, last-step}
+use Rattle.tree.proofs.Trees.{one-path}
 use Rattle.tree.proofs.Placement.{greatest-least}
 use Rattle.tree.proofs.ChildCodes.{codes-lead, step-among}
 use Rattle.tree.proofs.PlacedChildren.{placed-clear, child-among, placed-fit}
@@ -59,7 +59,7 @@ module _ {P : Profile} {T : Cells} {size : ℕ} (w : Tree P T size) (s c : ℕ) 
   pub collide-place : next T s c ≡ 0 → 1 ≤ c → c ≤ P .greatest → Place P (relocate T s base′) s c
   unfolding relocate
   collide-place none low high =
-      let clear = placed-clear w s based (c ∷ codes) (λ d a. inr a) c (inl refl) in
+      let clear = placed-clear w (c ∷ codes) c (inl refl) in
       record {
         based = rw (s-moved w collide-fit) (collide-fit .new);
         low = low;
@@ -89,7 +89,7 @@ module _ {P : Profile} {T : Cells} {size : ℕ} (w : Tree P T size) (s c : ℕ) 
     unfolding node
     child-path [] k = absurd (omega (arith, is-child [] k, w .root-parent, s-pos w collide-fit))
     child-path (d ∷ r) k =
-        let p = last-step w d r refl (k .was) in
+        let p = last-step T d r refl (k .was) in
         let f : node T r ≡ s = sym (p .back) ∙ is-child (d ∷ r) k in
         (d, step-among w (rw f at p), ap (_∷_ d) (one-path w r path f e (s-pos w collide-fit)))
 

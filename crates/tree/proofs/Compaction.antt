@@ -17,7 +17,7 @@ use Rattle.tree.specs.AfterAnEdit.{Now, Same, Trimmed}
 use Rattle.tree.proofs.Steps.{step-next, lookup-same}
 use Rattle.tree.proofs.PlacedChildren.{placed-fit}
 use Rattle.tree.proofs.Relocation.{s-pos, row-moved}
-use Rattle.tree.proofs.RelocatedTree.{tree-moved, sound-moved}
+use Rattle.tree.proofs.RelocatedTree.{relocate-sound}
 use Rattle.tree.proofs.LargestUsed.{largest-low, largest-parent, largest-again, trimmed-tree}
 
 -- ---- the two cases of a step
@@ -62,7 +62,7 @@ module _ {P : Profile} where
   same-now {key = key} a b = record {
     sound = b .sound;
     here = same-lookup b key ∙ a .here;
-    else = λ j h d. same-lookup b j ∙ a .else j h d;
+    else = λ j d. same-lookup b j ∙ a .else j d;
   }
 
   same-self : {t : Table} → Sound P t → Same P t t
@@ -85,9 +85,8 @@ module _ {P : Profile} where
       let k = w .tree .sits (top P t) (largest-parent (t .cells) (t .size) h) in
       let m = placed-fit (w .tree) (owner P t) (k .step .based) (childCodes (t .cells) (owner P t) (P .greatest)) (λ c a. a) in
       let b = t .cells (owner P t) .base in
-      let v = tree-moved (w .tree) m (t .size) (omega arith) (λ c e. omega (arith, w .tree .inside (b + c) (rw e (s-pos (w .tree) m)))) in
       let n : 1 ≤ next (t .cells) (owner P t) (k .code) = rw (step-next (t .cells) (k .step)) (omega arith) in
-      record { sound = sound-moved (w .tree) m (w .fruit) (w .deep) (k .code) n (t .size) v; rows = row-moved (w .tree) m; less = omega arith }
+      record { sound = relocate-sound w (owner P t) (target P t) m (k .code) n (t .size) (omega arith) (λ c e. omega (arith, w .tree .inside (b + c) (rw e (s-pos (w .tree) m)))); rows = row-moved (w .tree) m; less = omega arith }
 
   pub step-same : {t : Table} → Sound P t → Same P t (compactionStep P t .table)
   step-same {t} w = step-cases P t (λ m. Same P t (m .table)) (λ h k. trim-same (move-same w h k)) (trim-same (same-self w))

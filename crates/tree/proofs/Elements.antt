@@ -16,7 +16,7 @@ use Rattle.numbers.proofs.Cases.{lt-or-ge, same?, some?}
 use Rattle.rules.specs.WhatTheIndexDoes.{Profile}
 use Rattle.rules.specs.Table.{Content, Cells, Table, used}
 use Rattle.rules.specs.Rendering.{Kind, baseHolds, baseOf, checkOf, elements, renderBase, renderCheck, readCells, readTable}
-use Rattle.tree.specs.Soundness.{Tree, Sound}
+use Rattle.tree.specs.Soundness.{Tree}
 use Rattle.tree.proofs.UsedCells.{parent-used, parentless-unused, unused-other}
 use Rattle.tree.proofs.Trees.{held-leaf, row-used, past-unused, past-free}
 
@@ -141,25 +141,25 @@ module _ (base check : List ℤ) (i : ℕ) where
 
 -- ---- a sound table's rendering, read at any number: past the end both are 0
 
-module _ {P : Profile} (t : Table) (w : Sound P t) (n : ℕ) (long : t .size < n) where
+module _ {P : Profile} (t : Table) (w : Tree P (t .cells) (t .size)) (n : ℕ) (long : t .size < n) where
   pub base-at : (i : ℕ) → getD (renderBase n t) i (positive 0) ≡ baseOf t i
   unfolding baseHolds
   base-at i = ⊎-elim
       (base-inside t n i)
-      (λ h. base-beyond t n i h ∙ sym (base-held t i (omega arith) ∙ ap baseHolds (past-free (w .tree) i (omega arith))))
+      (λ h. base-beyond t n i h ∙ sym (base-held t i (omega arith) ∙ ap baseHolds (past-free w i (omega arith))))
       (lt-or-ge i n)
 
   pub base-plus : (i : ℕ) → 1 ≤ i → plusAt (renderBase n t) i ≡ t .cells i .base
-  base-plus i h = ap plusOf (base-at i ∙ base-held t i h) ∙ plus-holds (t .cells i) (leaf-baseless (w .tree) i)
+  base-plus i h = ap plusOf (base-at i ∙ base-held t i h) ∙ plus-holds (t .cells i) (leaf-baseless w i)
 
   pub base-minus : (i : ℕ) → 1 ≤ i → minusAt (renderBase n t) i ≡ t .cells i .row
   base-minus i h = ap minusOf (base-at i ∙ base-held t i h) ∙ minus-holds (t .cells i)
 
-module _ (K : Kind) {P : Profile} (t : Table) (w : Sound P t) (n : ℕ) (long : t .size < n) where
+module _ (K : Kind) {P : Profile} (t : Table) (w : Tree P (t .cells) (t .size)) (n : ℕ) (long : t .size < n) where
   pub check-at : (i : ℕ) → getD (renderCheck K P n t) i (positive 0) ≡ checkOf K P t i
   check-at i = ⊎-elim
       (check-inside K P t n i)
-      (λ h. check-beyond K P t n i h ∙ sym (check-past K P t i (past-unused (w .tree) i (omega arith)) (omega arith)))
+      (λ h. check-beyond K P t n i h ∙ sym (check-past K P t i (past-unused w i (omega arith)) (omega arith)))
       (lt-or-ge i n)
 
   pub check-plus : (i : ℕ) → i ≢ 1 → plusAt (renderCheck K P n t) i ≡ t .cells i .parent
@@ -174,14 +174,14 @@ module _ (K : Kind) {P : Profile} (t : Table) (w : Sound P t) (n : ℕ) (long : 
   same-parent : (i : ℕ) → 1 ≤ i → readCells base check i .parent ≡ t .cells i .parent
   unfolding readCells
   same-parent i h = ⊎-elim
-      (λ e. rw e (sym (w .tree .root-parent)))
+      (λ e. rw e (sym (w .root-parent)))
       (λ d. read-parent base check i (omega arith) ∙ check-plus i d)
       (same? i 1)
 
   same-cell : (i : ℕ) → readCells base check i ≡ t .cells i
   unfolding readCells
   same-cell i = ⊎-elim
-      (λ z. rw z (sym (w .tree .nowhere)))
+      (λ z. rw z (sym (w .nowhere)))
       (λ h. let b = read-base base check i h ∙ base-plus t w n long i h in
       same-content (same-parent i h) b (read-row base check i h ∙ base-minus t w n long i h))
       (some? i)

@@ -15,8 +15,8 @@ use Rattle.rules.specs.Table.{Cells, Table, next, walk, node, lookup}
 use Rattle.rules.proofs.Choices.{both}
 use Rattle.rules.proofs.Ranges.{inside}
 use Rattle.tree.specs.Soundness.{rowAt, Tree, Sound}
-use Rattle.tree.proofs.Steps.{next-step, lookup-row}
-use Rattle.tree.proofs.Trees.{held-leaf, held-code, based-pos, row-pos, step-low, step-high, step-held, last-step}
+use Rattle.tree.proofs.Steps.{next-step, lookup-row, last-step}
+use Rattle.tree.proofs.Trees.{held-leaf, held-code, based-pos, row-pos, step-low, step-high, step-held}
 
 -- ---- labels and identifiers
 
@@ -47,25 +47,24 @@ module _ (P : Profile) (key : List ℕ) where
   is-identifier h low high = rw (inside 1 (P .limit) (length key) low high, h)
 
 module _ {P : Profile} (r : RoundTrip P) where
-  code-inj : (a b : ℕ) → 1 ≤ P .code a → 1 ≤ P .code b → P .code a ≡ P .code b → a ≡ b
-  code-inj a b h k e = sym (r .back a h) ∙ ap (P .character) e ∙ r .back b k
+  code-inj : (a b : ℕ) → 1 ≤ P .code b → P .code a ≡ P .code b → a ≡ b
+  code-inj a b k e = sym (r .back a (omega arith)) ∙ ap (P .character) e ∙ r .back b k
 
-  codes-inj : (j k : List ℕ) → coded P j ≡ true → coded P k ≡ true → map (P .code) j ≡ map (P .code) k → j ≡ k
+  codes-inj : (j k : List ℕ) → coded P k ≡ true → map (P .code) j ≡ map (P .code) k → j ≡ k
   unfolding coded
-  codes-inj [] [] h g e = refl
-  codes-inj [] (b ∷ k) h g e = absurd (nil≢cons e)
-  codes-inj (a ∷ j) [] h g e = absurd (cons≢nil e)
-  codes-inj (a ∷ j) (b ∷ k) h g e =
-      let (h₁, h₂) = both (leb 1 (P .code a)) (coded P j) h in
+  codes-inj [] [] g e = refl
+  codes-inj [] (b ∷ k) g e = absurd (nil≢cons e)
+  codes-inj (a ∷ j) [] g e = absurd (cons≢nil e)
+  codes-inj (a ∷ j) (b ∷ k) g e =
       let (g₁, g₂) = both (leb 1 (P .code b)) (coded P k) g in
-      ap₂ _∷_ (code-inj a b (leb-true _ _ h₁) (leb-true _ _ g₁) (head-eq-of-cons-eq e)) (codes-inj j k h₂ g₂ (tail-eq-of-cons-eq e))
+      ap₂ _∷_ (code-inj a b (leb-true _ _ g₁) (head-eq-of-cons-eq e)) (codes-inj j k g₂ (tail-eq-of-cons-eq e))
 
-  pub labels-inj : (j k : List ℕ) → coded P j ≡ true → coded P k ≡ true → labels P j ≡ labels P k → j ≡ k
+  pub labels-inj : (j k : List ℕ) → coded P k ≡ true → labels P j ≡ labels P k → j ≡ k
   unfolding labels
-  labels-inj j k h g e = codes-inj j k h g (append-cancel-right _ _ (END ∷ []) e)
+  labels-inj j k g e = codes-inj j k g (append-cancel-right _ _ (END ∷ []) e)
 
-  pub path-inj : (j k : List ℕ) → coded P j ≡ true → coded P k ≡ true → reverse (labels P j) ≡ reverse (labels P k) → j ≡ k
-  path-inj j k h g e = labels-inj j k h g (sym (reverse-reverse (labels P j)) ∙ ap reverse e ∙ reverse-reverse (labels P k))
+  pub path-inj : (j k : List ℕ) → coded P k ≡ true → reverse (labels P j) ≡ reverse (labels P k) → j ≡ k
+  path-inj j k g e = labels-inj j k g (sym (reverse-reverse (labels P j)) ∙ ap reverse e ∙ reverse-reverse (labels P k))
 
 -- ---- live identifiers
 
@@ -109,7 +108,7 @@ module _ {P : Profile} (r : RoundTrip P) where
   unfolding node
   inner-key w [] h = ([], refl)
   inner-key {T} w (c ∷ path) h =
-      let p = last-step w c path refl (based-pos w (node T (c ∷ path)) h) in
+      let p = last-step T c path refl (based-pos w (node T (c ∷ path)) h) in
       let (key, e) = inner-key w path (p .based) in
       let more = spelt-codes c (held-code (step-held w p) h) (step-high w p) key in
       (key ++ (P .character c ∷ []), ap reverse more ∙ reverse-append (map (P .code) key) (c ∷ []) ∙ ap (_∷_ c) e)
@@ -120,7 +119,7 @@ module _ {P : Profile} (r : RoundTrip P) where
   unfolding node
   leaf-key w [] h = absurd (omega (arith, w .tree .root-row))
   leaf-key {t} w (c ∷ path) h =
-      let p = last-step (w .tree) c path refl (row-pos (w .tree) _ h) in
+      let p = last-step (t .cells) c path refl (row-pos (w .tree) _ h) in
       let (key, e) = inner-key (w .tree) path (p .based) in
       let same = path-labels P key ∙ ap₂ _∷_ (sym (held-leaf (step-held (w .tree) p) h .0)) e in
       (key, same, live-identifier w key (rw (lookup-row (t .cells) P key, same) h))

@@ -233,3 +233,13 @@ module _ {P : Profile} (r : RoundTrip P) {t : Table} (w : Sound P t) where
 
   pub entries-once : Once (entries P (t .cells))
   entries-once = in-order-once P (t .cells) (entries P (t .cells)) entries-in-order
+
+keys-among : (k : List ℕ) (es : List Entry) → Among k (map (λ (e : Entry). e .key) es) → (f : Entry) × Among f es × (k ≡ f .key)
+keys-among k [] a = absurd a
+keys-among k (f ∷ es) (inl p) = (f, inl refl, p)
+keys-among k (f ∷ es) (inr a) = let (g, b, q) = keys-among k es a in (g, inr b, q)
+
+in-order-keys : (P : Profile) (es : List Entry) → InOrder P es → Once (map (λ (e : Entry). e .key) es)
+in-order-keys P [] p = tt
+in-order-keys P (e ∷ es) p = (λ a. let (f, b, q) = keys-among (e .key) es a in
+    before-other (labels P (e .key)) (labels P (f .key)) (p .0 f b) (ap (labels P) q), in-order-keys P es (p .1))

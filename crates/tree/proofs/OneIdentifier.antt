@@ -37,6 +37,6 @@ module _ {P : Profile} {t : Table} (w : Sound P t) (key : List ℕ) (n : ℕ) {t
   meant-now trip m bare = record {
     sound = record { tree = m .tree; fruit = m .fruit; bare = bare; deep = meant-deep m };
     here = lookup-row (t′ .cells) P key ∙ m .here;
-    else = λ j h d. lookup-same (t .cells) (t′ .cells) P j (m .else (reverse (labels P j)) (λ e.
-        d (path-inj trip j key (identifier-coded P j h) (identifier-coded P key k) e)));
+    else = λ j d. lookup-same (t .cells) (t′ .cells) P j (m .else (reverse (labels P j)) (λ e.
+        d (path-inj trip j key (identifier-coded P key k) e)));
   }

@@ -17,10 +17,11 @@ use Rattle.tree.proofs.ChildCodes.{step-among}
 abbrev pub Include : Profile → Cells → ℕ → List ℕ → Type 0
 Include P T s cs = (c : ℕ) → Among c (childCodes T s (P .greatest)) → Among c cs
 
-module _ {P : Profile} {T : Cells} {size : ℕ} (w : Tree P T size) (s : ℕ) (based : 1 ≤ T s .base) (cs : List ℕ) (more : Include P T s cs) where
+module _ {P : Profile} {T : Cells} {size : ℕ} (w : Tree P T size) (cs : List ℕ) where
   pub placed-clear : (c : ℕ) → Among c cs → T (placed (used T) size cs + c) .parent ≡ 0
   placed-clear c k = unused-parent T _ (opens-each (used T) cs (placed (used T) size cs) c (placed-opens (used T) size (past-unused w) cs) k)
 
+module _ {P : Profile} {T : Cells} {size : ℕ} (w : Tree P T size) (s : ℕ) (based : 1 ≤ T s .base) (cs : List ℕ) (more : Include P T s cs) where
   pub child-among : (c : ℕ) → T (T s .base + c) .parent ≡ s → Among c cs
   child-among c e =
       let p : Step T s c (T s .base + c) = record { based = based; at = refl; back = e } in
@@ -30,6 +31,6 @@ module _ {P : Profile} {T : Cells} {size : ℕ} (w : Tree P T size) (s : ℕ) (b
   placed-fit = record {
     held = refl;
     old = based;
-    new = placed-pos (used T) size (past-unused w) cs;
-    clear = λ c e. placed-clear c (child-among c e);
+    new = placed-pos (used T) size cs;
+    clear = λ c e. placed-clear w cs c (child-among c e);
   }

@@ -31,18 +31,19 @@ module _ (used : ℕ → Bool) where
   each-opens [] q f = refl
   each-opens (d ∷ cs) q f = rw (f d (inl refl), each-opens cs q (λ c m. f c (inr m)))
 
-  module _ (size : ℕ) (past : (t : ℕ) → size < t → used t ≡ false) (cs : List ℕ) where
+  module _ (size : ℕ) (cs : List ℕ) where
     pub placed-pos : 1 ≤ placed used size cs
     unfolding placed
     placed-pos = first-low (opens used cs) size 1
-
-    pub placed-opens : opens used cs (placed used size cs) ≡ true
-    unfolding placed
-    placed-opens = first-passes (opens used cs) size 1 (each-opens cs (1 + size) (λ c m. past _ (omega arith)))
 
     pub placed-least : (m : ℕ) → 1 ≤ m → opens used cs m ≡ true → placed used size cs ≤ m
     unfolding placed
     placed-least = first-least (opens used cs) size 1
 
+  module _ (size : ℕ) (past : (t : ℕ) → size < t → used t ≡ false) (cs : List ℕ) where
+    pub placed-opens : opens used cs (placed used size cs) ≡ true
+    unfolding placed
+    placed-opens = first-passes (opens used cs) size 1 (each-opens cs (1 + size) (λ c m. past _ (omega arith)))
+
     pub placed-within : 1 ≤ size → ((c : ℕ) → Among c cs → 1 ≤ c) → placed used size cs ≤ size
-    placed-within h low = placed-least size h (each-opens cs size (λ c m. past _ (omega (arith, low c m))))
+    placed-within h low = placed-least size cs size h (each-opens cs size (λ c m. past _ (omega (arith, low c m))))

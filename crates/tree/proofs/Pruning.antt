@@ -14,7 +14,8 @@ use Rattle.rules.proofs.Choices.{branch}
 use Rattle.tree.specs.Soundness.{Step, rowAt, Fruit, Bare, Tree}
 use Rattle.tree.specs.Moved.{Fit}
 use Rattle.tree.specs.AfterAnEdit.{Meant}
-use Rattle.tree.proofs.Trees.{based-pos, row-pos, based-row, held-leaf, step-held, step-far, last-step, one-path, fruit-weak, fruit-whole, bare-path}
+use Rattle.tree.proofs.Steps.{last-step}
+use Rattle.tree.proofs.Trees.{based-pos, row-pos, based-row, held-leaf, step-held, step-far, one-path, fruit-weak, fruit-whole, bare-path}
 use Rattle.tree.proofs.ChildCodes.{childless-baseless, childless-alone, child-next}
 use Rattle.tree.proofs.Relocation.{row-moved, s-moved}
 use Rattle.tree.proofs.RelocatedTree.{tree-moved, fruit-moved}
@@ -49,7 +50,7 @@ module _ {P : Profile} {T : Cells} {size : ℕ} (w : Tree P T size) (c : ℕ) (p
   Less = update T last free
 
   step-last : Step T (node T path) c last
-  step-last = last-step w c path refl pos
+  step-last = last-step T c path refl pos
 
   module _ (none : childless T last (P .greatest) ≡ true) where
     one-less : OneMore Less T last
@@ -107,7 +108,7 @@ module _ {P : Profile} where
   stays-alike : {T : Cells} {size x : ℕ} → Left P T size x → Bare T → childless T x (P .greatest) ≡ false → Alike P T size T
   stays-alike {T} {x = x} l b e =
       let (c, n) = child-next T x (P .greatest) e in
-      record { tree = l .tree; rows = λ r. refl; fruit = fruit-whole (l .tree) x c n (l .fruit); bare = b }
+      record { tree = l .tree; rows = λ r. refl; fruit = fruit-whole T x c n (l .fruit); bare = b }
 
   prune-alike : (path : List ℕ) {T : Cells} {size : ℕ} → Left P T size (node T path) → Alike P T size (prune P T path)
   unfolding prune node

@@ -6,8 +6,8 @@ use Prim.Native.Nat.{ℕ, _+_, _-_, _≤_}
 use native.Mathlib.Omega.{arith}
 use Rattle.numbers.proofs.Cases.{same?, some?}
 use Rattle.rules.specs.WhatTheIndexDoes.{Profile, labels}
-use Rattle.rules.specs.Table.{Cells, free, next, lookup}
-use Rattle.rules.specs.Insertion.{renamed}
+use Rattle.rules.specs.Table.{Cells, Table, free, next, lookup}
+use Rattle.rules.specs.Insertion.{renamed, relocate}
 use Rattle.tree.specs.Soundness.{Held, aLeaf, anInner, Fruit, Sits, Tree, Deep, Sound}
 use Rattle.tree.specs.Moved.{Fit}
 use Rattle.tree.proofs.Steps.{next-step, lookup-same}
@@ -103,12 +103,16 @@ module _ {P : Profile} {T : Cells} {size : ℕ} (w : Tree P T size) {s b q : ℕ
   pub lookup-moved : (key : List ℕ) → lookup P (M w m) key ≡ lookup P T key
   lookup-moved key = lookup-same T (M w m) P key (row-moved w m (reverse (labels P key)))
 
-  -- The table stays sound, if s has a child (a root without children has base 1, wherever it is sent).
-  pub sound-moved : Fruit T 0 → Deep P T → (c : ℕ) → 1 ≤ next T s c → (size′ : ℕ) → Tree P (M w m) size′ →
-      Sound P (record { cells = M w m; size = size′ })
-  sound-moved f deep c n size′ v = record {
-    tree = v;
-    fruit = fruit-moved f;
-    bare = bare-step v (step-to w m (next-step T n));
-    deep = λ path h. deep path (rw (row-moved w m path) at h);
-  }
+
+pub relocate-sound : {P : Profile} {t : Table} → Sound P t → (s q : ℕ) → Fit (t .cells) s (t .cells s .base) q → (c : ℕ) → 1 ≤ next (t .cells) s c →
+    (size′ : ℕ) → t .size ≤ size′ → ((d : ℕ) → t .cells (t .cells s .base + d) .parent ≡ s → q + d ≤ size′) →
+    Sound P (record { cells = relocate (t .cells) s q; size = size′ })
+unfolding relocate
+relocate-sound {P} {t} w s q m c n size′ big holds =
+    let v = tree-moved (w .tree) m size′ big holds in
+    record {
+      tree = v;
+      fruit = fruit-moved (w .tree) m (w .fruit);
+      bare = bare-step v (step-to (w .tree) m (next-step (t .cells) n));
+      deep = λ path h. w .deep path (rw (row-moved (w .tree) m path) at h);
+    }

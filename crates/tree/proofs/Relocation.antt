@@ -91,7 +91,7 @@ module _ {P : Profile} {T : Cells} {size : ℕ} (w : Tree P T size) {s b q : ℕ
   to-pos t h = ⊎-elim (λ e. rw (to-child t e) (omega (arith, m .new))) (λ d. rw (to-other t d) h) (same? (T t .parent) s)
 
   pub s-alone : T s .parent ≢ s
-  s-alone = let (r, e) = path-of w s s-based in no-loop w r e s-pos
+  s-alone = no-loop w s s-pos
 
   pub s-stays : ρ s ≡ s
   s-stays = to-other s s-alone

@@ -21,7 +21,7 @@ use Rattle.tree.proofs.FromRules.{ruled-render}
 use Rattle.tree.proofs.ToRules.{rendered-long, render-ruled, render-home}
 
 pub one-table : {K : Kind} {P : Profile} {base check : List ℤ} (t : Table) → Renders K P base check t → t ≡ readTable base check
-one-table {K} {base = base} t r = sym (ap₂ readTable (r .base-is) (r .check-is) ∙ read-rendered K t (r .table) (length base) (rendered-long r))
+one-table {K} {base = base} t r = sym (ap₂ readTable (r .base-is) (r .check-is) ∙ read-rendered K t (r .table .tree) (length base) (rendered-long r))
 
 module _ (P : Profile) (base check : List ℤ) where
   -- ---- rules 1 and 4 to 7 are those of every kind; a kind's own stand between them

@@ -1,4 +1,5 @@
--- The step from a cell to its child as a relation, and the two ways of walking. Nothing later opens `next`. Assumes nothing.
+-- The step from a cell to its child as a relation, and the two ways of walking. No later law opens `next`, but for a
+-- computed example. Assumes nothing.
 use mathlib.Core.Path.{_≡_, refl, sym, ap, _∙_}
 use mathlib.Core.Logic.{_≢_, _⊎_, inl, inr, ⊎-elim}
 use mathlib.Core.Bool.{and-false}
@@ -40,6 +41,11 @@ module _ (T : Cells) where
 
   pub next-step : {s c : ℕ} → 1 ≤ next T s c → Step T s c (next T s c)
   next-step {s} {c} h = ⊎-elim (λ p. p) (λ e. absurd (omega arith)) (step? s c)
+
+  -- The last step of a path.
+  pub last-step : (c : ℕ) (path : List ℕ) {t : ℕ} → node T (c ∷ path) ≡ t → 1 ≤ t → Step T (node T path) c t
+  unfolding node
+  last-step c path e h = rw e at (next-step {s = node T path} {c = c} (rw e h))
 
   -- A cell without a base leads nowhere.
   pub next-baseless : (s c : ℕ) → T s .base ≡ 0 → next T s c ≡ 0

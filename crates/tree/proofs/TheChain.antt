@@ -23,7 +23,7 @@ use Rattle.tree.specs.TheChain.{linksFrom, unusedFrom, Unused}
 use Rattle.tree.specs.Members.{Among, Rising}
 use Rattle.tree.proofs.UsedCells.{parentless-unused}
 use Rattle.tree.proofs.Trees.{zero-parent}
-use Rattle.tree.proofs.Elements.{check-link, check-at}
+use Rattle.tree.proofs.Elements.{check-link, check-inside}
 
 -- ---- the list of the unused cells
 
@@ -96,7 +96,7 @@ module _ (u : ℕ → Bool) (size : ℕ) where
   links f cells on (none e v) more = rw (v, lt-leb f size (omega arith)) (ap (λ x. x ∷ []) e)
   links f cells on (head k e v c) more = rw (c, le-leb f size (omega arith)) (ap (λ xs. f ∷ xs) (more k e v))
 
-module _ (P : Profile) (t : Table) (w : Sound P t) (n : ℕ) (long : t .size < n) where
+module _ (P : Profile) (t : Table) (z : t .cells 0 .parent ≡ 0) (n : ℕ) (long : t .size < n) where
   abbrev u : ℕ → Bool
   u = used (t .cells)
 
@@ -104,7 +104,7 @@ module _ (P : Profile) (t : Table) (w : Sound P t) (n : ℕ) (long : t .size < n
   check = renderCheck chained P n t
 
   link-at : (i : ℕ) → u i ≡ false → i ≤ t .size → minusAt check i ≡ nextFree t i
-  link-at i e h = ap minusOf (check-at chained t w n long i ∙ check-link chained P t i e h) ∙ minus-negative (nextFree t i)
+  link-at i e h = ap minusOf (check-inside chained P t n i (omega arith) ∙ check-link chained P t i e h) ∙ minus-negative (nextFree t i)
 
   chain-from : (m k i : ℕ) → suc i + k ≡ suc (t .size) → k < m → u i ≡ false → linksFrom check (t .size) m i ≡ after u (t .size) i k
   unfolding linksFrom nextFree
@@ -116,4 +116,4 @@ module _ (P : Profile) (t : Table) (w : Sound P t) (n : ℕ) (long : t .size < n
   pub chain-names : linksFrom (renderCheck chained P n t) (t .size) (suc (t .size)) 0 ≡
       unusedFrom (used (t .cells)) (t .size) 1 ++ (suc (t .size) ∷ [])
   chain-names = chain-from (suc (t .size)) (t .size) 0 (omega arith) (omega arith)
-      (parentless-unused (t .cells) 0 (λ e. omega arith) (zero-parent (w .tree)))
+      (parentless-unused (t .cells) 0 (λ e. omega arith) z)

@@ -51,7 +51,7 @@ module _ {K : Kind} {P : Profile} {base check : List ℤ} where
     deep = r .table .deep
 
     check-element : (i : ℕ) → getD check i (positive 0) ≡ checkOf K P t i
-    check-element i = ap (λ xs. getD xs i (positive 0)) (r .check-is) ∙ check-at K t (r .table) (length base) (rendered-long r) i
+    check-element i = ap (λ xs. getD xs i (positive 0)) (r .check-is) ∙ check-at K t (r .table .tree) (length base) (rendered-long r) i
 
     -- ---- rules 1 to 4
 
@@ -84,8 +84,7 @@ module _ {K : Kind} {P : Profile} {base check : List ℤ} where
           (live-used T (T i .parent) (live tree (T i .parent) (tree .sits i u .step .based)))
 
       parent-apart : not (eqb (plusAt check i) i) ≡ true
-      parent-apart = let (path, e) = tree .reach i u in
-          rw (← used-parent bounded i u, ne-eqb (T i .parent) i (no-loop tree path e (used-pos tree i u)))
+      parent-apart = rw (← used-parent bounded i u, ne-eqb (T i .parent) i (no-loop tree i (used-pos tree i u)))
 
       based-parent : leb 1 (plusAt base (plusAt check i)) ≡ true
       based-parent = rw (← parent-base bounded i u) (le-leb 1 _ (tree .sits i u .step .based))

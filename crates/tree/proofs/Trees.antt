@@ -2,8 +2,8 @@
 -- nothing.
 use mathlib.Core.Path.{_≡_, refl, sym, ap, ap₂, _∙_, subst}
 use mathlib.Core.Logic.{_≢_, _⊎_, inl, inr, ⊎-elim}
-use mathlib.Core.Bool.{true, false}
-use mathlib.Core.List.{List, [], _∷_, reverseAux}
+use mathlib.Core.Bool.{true, false, true≢false}
+use mathlib.Core.List.{List, [], _∷_, reverseAux, cons≢nil}
 use Prim.Native.Nat.{ℕ, _≤_, _<_}
 use native.Mathlib.Omega.{arith}
 use lib.ListN.{length, length-reverseAux}
@@ -14,8 +14,8 @@ use Rattle.rules.specs.WhatTheIndexDoes.{Profile, isRow}
 use Rattle.rules.specs.Table.{Content, Cells, free, used, next, walk, node}
 use Rattle.rules.proofs.Choices.{both}
 use Rattle.tree.specs.Soundness.{Step, Held, aLeaf, anInner, Fruit, Bare, Tree}
-use Rattle.tree.proofs.Steps.{parent-cell, base-cell, step-next, next-step, walk-node}
-use Rattle.tree.proofs.UsedCells.{parentless-unused}
+use Rattle.tree.proofs.Steps.{parent-cell, base-cell, step-next, next-step, last-step, walk-node}
+use Rattle.tree.proofs.UsedCells.{parentless-unused, by-use}
 
 -- ---- what a cell holds
 
@@ -43,6 +43,10 @@ module _ {c : ℕ} {x : Content} where
   pub held-end : Held c x → c ≡ 1 → 1 ≤ x .row
   held-end (aLeaf e z r) h = row-low r
   held-end (anInner l b z) h = absurd (omega arith)
+
+-- x has a child after all.
+pub fruit-whole : (T : Cells) (x c : ℕ) → 1 ≤ next T x c → Fruit T x → Fruit T 0
+fruit-whole T x c n f u d h k = ⊎-elim (λ e. (c, rw e n)) (λ e. f u e h k) (same? u x)
 
 module _ {P : Profile} {T : Cells} {size : ℕ} (w : Tree P T size) where
   -- ---- cells
@@ -103,33 +107,23 @@ module _ {P : Profile} {T : Cells} {size : ℕ} (w : Tree P T size) where
 
   -- ---- paths
 
-  -- The last step of a path.
-  pub last-step : (c : ℕ) (path : List ℕ) {t : ℕ} → node T (c ∷ path) ≡ t → 1 ≤ t → Step T (node T path) c t
-  unfolding node
-  last-step c path e h = rw e at (next-step T {s = node T path} {c = c} (rw e h))
-
-  pub no-loop : (path : List ℕ) {t : ℕ} → node T path ≡ t → 1 ≤ t → T t .parent ≢ t
-  unfolding node
-  no-loop [] e h u = omega (arith, w .root-parent, rw (← e) at u)
-  no-loop (c ∷ path) e h u = no-loop path (sym (last-step c path e h .back) ∙ u) h u
-
   -- A cell has one path only.
   pub one-path : (r r′ : List ℕ) {t : ℕ} → node T r ≡ t → node T r′ ≡ t → 1 ≤ t → r ≡ r′
   unfolding node
   one-path [] [] e e′ h = refl
-  one-path [] (c ∷ r) e e′ h = absurd (omega (arith, step-far (last-step c r e′ h)))
-  one-path (c ∷ r) [] e e′ h = absurd (omega (arith, step-far (last-step c r e h)))
+  one-path [] (c ∷ r) e e′ h = absurd (omega (arith, step-far (last-step T c r e′ h)))
+  one-path (c ∷ r) [] e e′ h = absurd (omega (arith, step-far (last-step T c r e h)))
   one-path (c ∷ r) (c′ ∷ r′) e e′ h =
-      let p = last-step c r e h in
-      let p′ = last-step c′ r′ e′ h in
+      let p = last-step T c r e h in
+      let p′ = last-step T c′ r′ e′ h in
       let f = one-path r r′ {t = node T r} refl (sym (p′ .back) ∙ p .back) (based-pos (node T r) (p .based)) in
       let k : c ≡ c′ = omega (arith, p .at, p′ .at, ap (λ x. T (node T x) .base) f) in
       ap₂ _∷_ k f
 
   -- No labels lead from a cell back to it.
-  pub no-ring : (cs path : List ℕ) {t : ℕ} → node T path ≡ t → 1 ≤ t → walk T t cs ≡ t → cs ≡ []
-  no-ring [] path e h k = refl
-  no-ring (c ∷ cs) path e h k =
+  ring : (cs path : List ℕ) {t : ℕ} → node T path ≡ t → 1 ≤ t → walk T t cs ≡ t → cs ≡ []
+  ring [] path e h k = refl
+  ring (c ∷ cs) path e h k =
       let f : node T (reverseAux (c ∷ cs) path) ≡ _ = sym (walk-node T (c ∷ cs) path) ∙ ap (λ (x : ℕ). walk T x (c ∷ cs)) e ∙ k in
       absurd (omega (arith, length-reverseAux (c ∷ cs) path, ap (λ (r : List ℕ). length r) (one-path (reverseAux (c ∷ cs) path) path f e h)))
 
@@ -138,14 +132,32 @@ module _ {P : Profile} {T : Cells} {size : ℕ} (w : Tree P T size) where
   unfolding node
   path-of s h = ⊎-elim (λ e. ([], sym e)) (w .reach s) (live s h)
 
+  -- Every used cell has a path.
+  pub used-path : (t : ℕ) → used T t ≡ true → (path : List ℕ) × (node T path ≡ t)
+  unfolding node
+  used-path t u = by-use T t (λ e. ([], sym e)) (λ d. w .reach t) (λ f. absurd (true≢false (sym u ∙ f)))
+
+  -- A walk that comes to a cell begins at an inner cell.
+  begins : (cs : List ℕ) (c t : ℕ) → 1 ≤ walk T t (c ∷ cs) → 1 ≤ T t .base
+  unfolding walk
+  begins [] c t h = next-step T h .based
+  begins (d ∷ cs) c t h = next-step T {s = t} {c = c} (based-pos (next T t c) (begins cs d (next T t c) h)) .based
+
+  pub no-ring : (cs : List ℕ) (t : ℕ) → 1 ≤ t → walk T t cs ≡ t → cs ≡ []
+  no-ring [] t h k = refl
+  no-ring (c ∷ cs) t h k = let (path, e) = path-of t (begins cs c t (rw k h)) in ring (c ∷ cs) path e h k
+
+  pub no-loop : (t : ℕ) → 1 ≤ t → T t .parent ≢ t
+  unfolding walk
+  no-loop t h u =
+      let g = w .sits t (rw u h) in
+      let p : Step T t (g .code) t = rw u at (g .step) in
+      absurd (cons≢nil (no-ring (g .code ∷ []) t h (step-next T p)))
+
   -- ---- children
 
   pub fruit-weak : (x : ℕ) → Fruit T 0 → Fruit T x
   fruit-weak x f u d h k = f u (λ e. omega (arith, used-pos u h)) h k
-
-  -- x has a child after all.
-  pub fruit-whole : (x c : ℕ) → 1 ≤ next T x c → Fruit T x → Fruit T 0
-  fruit-whole x c n f u d h k = ⊎-elim (λ e. (c, rw e n)) (λ e. f u e h k) (same? u x)
 
   -- Where a path leads on from the root, the root has a child.
   first-step : (path : List ℕ) (c : ℕ) → 1 ≤ node T (c ∷ path) → (a : ℕ) × (1 ≤ next T 1 a)

@@ -19,7 +19,7 @@ pub record Meant (P : Profile) (T : Cells) (path : List ℕ) (n : ℕ) (R : Tabl
 pub record Now (P : Profile) (t : Table) (key : List ℕ) (n : ℕ) (t′ : Table) : Type 0 where
   pub sound : Sound P t′
   pub here : lookup P (t′ .cells) key ≡ n
-  pub else : (j : List ℕ) → isIdentifier P j ≡ true → j ≢ key → lookup P (t′ .cells) j ≡ lookup P (t .cells) j
+  pub else : (j : List ℕ) → j ≢ key → lookup P (t′ .cells) j ≡ lookup P (t .cells) j
 
 -- t′ is sound, means what t means, and is no larger.
 pub record Same (P : Profile) (t t′ : Table) : Type 0 where

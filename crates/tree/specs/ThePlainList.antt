@@ -104,7 +104,7 @@ history P last t es (c ∷ cs) =
 pub record Agrees (P : Profile) (last : ℕ) (t : Table) (es : List Entry) : Type 0 where
   pub sound : Sound P t
   pub fits : t .size ≤ last
-  pub rows : (key : List ℕ) → isIdentifier P key ≡ true → lookup P (t .cells) key ≡ rowIn es key
+  pub rows : (key : List ℕ) → lookup P (t .cells) key ≡ rowIn es key
 
 -- The same answer, and what is left agrees.
 pub record Together (P : Profile) (last : ℕ) (o : Outcome) (r : Reply) : Type 0 where
