@@ -1,52 +1,53 @@
 -- Compaction keeps a sound table sound and every row where it was, and leaves no size past the largest used cell. Assumes nothing.
-use mathlib.Core.Path.{_≡_, refl, sym, _∙_}
-use mathlib.Core.Bool.{_&&_}
+use mathlib.Core.Path.{_≡_, refl, sym, ap, _∙_}
+use mathlib.Core.Bool.{_&&_, true≢false}
 use mathlib.Core.List.{List, reverse}
-use Prim.Native.Nat.{ℕ, zero, suc, _+_, _≤_, _<_}
+use Prim.Native.Nat.{ℕ, zero, suc, _+_, _≤_}
 use native.Mathlib.Omega.{arith}
 use lib.Dec.{ltb, eqb}
-use borrow.Author.Tests.{ltb-true}
+use borrow.Author.Tests.{lt-ltb, ltb-true}
 use Rattle.rules.specs.WhatTheIndexDoes.{Profile, labels}
 use Rattle.rules.specs.Table.{Table, used, largestUsed, next, lookup, childCodes}
-use Rattle.rules.specs.Placement.{placed}
 use Rattle.rules.specs.Insertion.{relocate}
 use Rattle.rules.specs.DeletionAndCompaction.{Moves, trimmed, compactionStep, compactionSteps, compacted}
-use Rattle.rules.proofs.Choices.{branch, both}
+use Rattle.rules.proofs.Choices.{branch, both, join}
 use Rattle.tree.specs.Soundness.{Sound}
+use Rattle.tree.specs.StepsTaken.{top, owner, target, Lowers}
 use Rattle.tree.specs.AfterAnEdit.{Now, Same, Trimmed}
 use Rattle.tree.proofs.Steps.{step-next, lookup-same}
+use Rattle.tree.proofs.Trees.{past-unused}
 use Rattle.tree.proofs.PlacedChildren.{placed-fit}
 use Rattle.tree.proofs.Relocation.{s-pos, row-moved}
 use Rattle.tree.proofs.RelocatedTree.{relocate-sound}
-use Rattle.tree.proofs.LargestUsed.{largest-low, largest-parent, largest-again, trimmed-tree}
+use Rattle.tree.proofs.LargestUsed.{largest-used, largest-low, largest-parent, largest-again, trimmed-tree}
+
+-- The size is the largest used cell up to the size.
+abbrev Tight : Table → Type 0
+Tight t = t .size ≡ largestUsed (t .cells) (t .size)
 
 -- ---- the two cases of a step
 
 module _ (P : Profile) (t : Table) where
-  -- The largest used cell, its parent, and the placed base for that parent's children.
-  abbrev pub top : ℕ
-  top = largestUsed (t .cells) (t .size)
-
-  abbrev pub owner : ℕ
-  owner = t .cells top .parent
-
-  abbrev pub target : ℕ
-  target = placed (used (t .cells)) (t .size) (childCodes (t .cells) owner (P .greatest))
-
+  -- What a step leaves that moves, and one that does not.
   abbrev pub move : Moves
-  move = record { table = trimmed (relocate (t .cells) owner target) (t .size); count = 1 }
+  move = record { table = trimmed (relocate (t .cells) (owner P t) (target P t)) (t .size); count = 1 }
 
   abbrev pub stay : Moves
   stay = record { table = trimmed (t .cells) (t .size); count = 0 }
 
-  pub step-cases : (F : Moves → Type 0) → (1 < top → target < t .cells owner .base → F move) → F stay → F (compactionStep P t)
+  pub step-cases : (F : Moves → Type 0) → (Lowers P t → F move) → ((Lowers P t → ⊥) → F stay) → F (compactionStep P t)
   unfolding compactionStep
-  step-cases F f g = branch F (ltb 1 top && ltb target (t .cells owner .base))
-      (λ e. let (h, k) = both _ _ e in f (ltb-true _ _ h) (ltb-true _ _ k)) (λ e. g)
+  step-cases F f g = branch F (ltb 1 (top P t) && ltb (target P t) (t .cells (owner P t) .base))
+      (λ e. let (h, k) = both _ _ e in f (record { below = ltb-true _ _ h; lower = ltb-true _ _ k }))
+      (λ e. g (λ l. true≢false (sym (join (lt-ltb _ _ (l .below)) (lt-ltb _ _ (l .lower))) ∙ e)))
 
-  pub step-trims : Trimmed (compactionStep P t .table)
+  pub step-less : 1 ≤ t .size → compactionStep P t .table .size ≤ t .size
   unfolding trimmed
-  step-trims = step-cases (λ m. Trimmed (m .table)) (λ h k. sym (largest-again _ (t .size))) (sym (largest-again _ (t .size)))
+  step-less h = step-cases (λ m. m .table .size ≤ t .size) (λ _. largest-low _ (t .size) h) (λ _. largest-low _ (t .size) h)
+
+  step-tight : Tight (compactionStep P t .table)
+  unfolding trimmed
+  step-tight = step-cases (λ m. Tight (m .table)) (λ _. sym (largest-again _ (t .size))) (λ _. sym (largest-again _ (t .size)))
 
 -- ---- a step
 
@@ -78,22 +79,26 @@ module _ {P : Profile} where
         less = omega (arith, largest-low (t′ .cells) (t′ .size) (w .tree .some), a .less);
       }
 
-  move-same : {t : Table} → Sound P t → 1 < top P t → target P t < t .cells (owner P t) .base →
-      Same P t (record { cells = relocate (t .cells) (owner P t) (target P t); size = t .size })
+  move-same : {t : Table} → Sound P t → Lowers P t → Same P t (record { cells = relocate (t .cells) (owner P t) (target P t); size = t .size })
   unfolding relocate
-  move-same {t} w h lower =
-      let k = w .tree .sits (top P t) (largest-parent (t .cells) (t .size) h) in
+  move-same {t} w l =
+      let k = w .tree .sits (top P t) (largest-parent (t .cells) (t .size) (l .below)) in
       let m = placed-fit (w .tree) (owner P t) (k .step .based) (childCodes (t .cells) (owner P t) (P .greatest)) (λ c a. a) in
       let b = t .cells (owner P t) .base in
       let n : 1 ≤ next (t .cells) (owner P t) (k .code) = rw (step-next (t .cells) (k .step)) (omega arith) in
-      record { sound = relocate-sound w (owner P t) (target P t) m (k .code) n (t .size) (omega arith) (λ c e. omega (arith, w .tree .inside (b + c) (rw e (s-pos (w .tree) m)))); rows = row-moved (w .tree) m; less = omega arith }
+      let fits : (c : ℕ) → t .cells (b + c) .parent ≡ owner P t → target P t + c ≤ t .size = (λ c e. omega (arith, l .lower, w .tree .inside (b + c) (rw e (s-pos (w .tree) m)))) in
+      record {
+        sound = relocate-sound w (owner P t) (target P t) m (k .code) n (t .size) (omega arith) fits;
+        rows = row-moved (w .tree) m;
+        less = omega arith;
+      }
 
   pub step-same : {t : Table} → Sound P t → Same P t (compactionStep P t .table)
-  step-same {t} w = step-cases P t (λ m. Same P t (m .table)) (λ h k. trim-same (move-same w h k)) (trim-same (same-self w))
+  step-same {t} w = step-cases P t (λ m. Same P t (m .table)) (λ l. trim-same (move-same w l)) (λ _. trim-same (same-self w))
 
   -- ---- many steps
 
-  pub steps-same : (n : ℕ) {t : Table} → Sound P t → Same P t (compactionSteps P n t .table)
+  steps-same : (n : ℕ) {t : Table} → Sound P t → Same P t (compactionSteps P n t .table)
   unfolding compactionSteps
   steps-same zero w = same-self w
   steps-same (suc n) {t} w =
@@ -106,14 +111,19 @@ module _ {P : Profile} where
 
 -- ---- the size
 
-module _ (P : Profile) where
-  steps-trims : (n : ℕ) (t : Table) → Trimmed t → Trimmed (compactionSteps P n t .table)
-  unfolding compactionSteps
-  steps-trims zero t e = e
-  steps-trims (suc n) t e =
-      let a = step-trims P t in
-      branch (λ (m : Moves). Trimmed (m .table)) (eqb (compactionStep P t .count) 0) (λ _. a) (λ _. steps-trims n _ a)
+steps-tight : (P : Profile) (n : ℕ) (t : Table) → Tight t → Tight (compactionSteps P n t .table)
+unfolding compactionSteps
+steps-tight P zero t e = e
+steps-tight P (suc n) t e = branch (λ (m : Moves). Tight (m .table)) (eqb (compactionStep P t .count) 0) (λ _. step-tight P t)
+    (λ _. steps-tight P n (compactionStep P t .table) (step-tight P t))
 
-  pub compacted-trims : (n : ℕ) (t : Table) → Trimmed (compacted P n t .table)
+tight-trimmed : {P : Profile} {t : Table} → Sound P t → Tight t → Trimmed t
+tight-trimmed {t = t} w e = record { last = ap (used (t .cells)) e ∙ largest-used (t .cells) (t .size); past = past-unused (w .tree) }
+
+module _ {P : Profile} {t : Table} (w : Sound P t) where
+  pub step-trims : Trimmed (compactionStep P t .table)
+  step-trims = tight-trimmed (step-same w .sound) (step-tight P t)
+
+  pub compacted-trims : (n : ℕ) → Trimmed (compacted P n t .table)
   unfolding compacted trimmed
-  compacted-trims n t = steps-trims n _ (sym (largest-again (t .cells) (t .size)))
+  compacted-trims n = tight-trimmed (compacted-same n w .sound) (steps-tight P n (trimmed (t .cells) (t .size)) (sym (largest-again (t .cells) (t .size))))

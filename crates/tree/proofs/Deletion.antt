@@ -4,15 +4,14 @@ use mathlib.Core.List.{List, _∷_, map, reverse}
 use Prim.Native.Nat.{ℕ, _≤_}
 use Rattle.rules.specs.WhatTheIndexDoes.{END, Profile, RoundTrip, labels}
 use Rattle.rules.specs.Table.{Table, lookup}
-use Rattle.rules.specs.DeletionAndCompaction.{trimmed, prune, deleted}
+use Rattle.rules.specs.DeletionAndCompaction.{prune, deleted}
 use Rattle.tree.specs.Soundness.{rowAt, Sound}
 use Rattle.tree.specs.AfterAnEdit.{Now, Trimmed}
 use Rattle.tree.proofs.Steps.{lookup-row}
 use Rattle.tree.proofs.Identifiers.{path-labels, live-identifier}
 use Rattle.tree.proofs.OneIdentifier.{meant-now}
 use Rattle.tree.proofs.Pruning.{Dropped, prune-dropped}
-use Rattle.tree.proofs.Compaction.{same-now, step-same, step-trims, step-cases}
-use Rattle.tree.proofs.LargestUsed.{largest-low}
+use Rattle.tree.proofs.Compaction.{same-now, step-less, step-same, step-trims}
 
 module _ {P : Profile} {t : Table} (w : Sound P t) (key : List ℕ) (live : 1 ≤ lookup P (t .cells) key) where
   -- The table with the leaf and the parents that it leaves childless freed.
@@ -33,11 +32,10 @@ module _ {P : Profile} {t : Table} (w : Sound P t) (key : List ℕ) (live : 1 �
   unfolding deleted
   deleted-now trip = let c = cut-now trip in same-now c (step-same (c .sound))
 
-pub deleted-less : (P : Profile) (t : Table) (key : List ℕ) → 1 ≤ t .size → deleted P t key .size ≤ t .size
-unfolding deleted trimmed
-deleted-less P t key h = step-cases P (record { cells = prune P (t .cells) (reverse (labels P key)); size = t .size }) (λ m. m .table .size ≤ t .size)
-    (λ _ _. largest-low _ (t .size) h) (largest-low _ (t .size) h)
+  pub deleted-trims : RoundTrip P → Trimmed (deleted P t key)
+  unfolding deleted
+  deleted-trims trip = step-trims (cut-now trip .sound)
 
-pub deleted-trims : (P : Profile) (t : Table) (key : List ℕ) → Trimmed (deleted P t key)
+pub deleted-less : (P : Profile) (t : Table) (key : List ℕ) → 1 ≤ t .size → deleted P t key .size ≤ t .size
 unfolding deleted
-deleted-trims P t key = step-trims P (record { cells = prune P (t .cells) (reverse (labels P key)); size = t .size })
+deleted-less P t key = step-less P (record { cells = prune P (t .cells) (reverse (labels P key)); size = t .size })

@@ -50,6 +50,17 @@ module _ (e : Entry) (fs : List Entry) where
   among-either (f ∷ es) (inl p) = inl (inl p)
   among-either (f ∷ es) (inr a) = ⊎-elim (λ b. inl (inr b)) inr (among-either es a)
 
+-- An identifier of one of the entries.
+key-among : (key : List ℕ) (es : List Entry) → Among key (map (λ (e : Entry). e .key) es) → (f : Entry) × Among f es × (key ≡ f .key)
+key-among key [] a = absurd a
+key-among key (f ∷ es) (inl p) = (f, inl refl, p)
+key-among key (f ∷ es) (inr a) = let (g, b, q) = key-among key es a in (g, inr b, q)
+
+in-order-once : (P : Profile) (es : List Entry) → InOrder P es → Once (map (λ (e : Entry). e .key) es)
+in-order-once P [] p = tt
+in-order-once P (e ∷ es) p = (λ a. let (f, b, q) = key-among (e .key) es a in
+    before-other (labels P (e .key)) (labels P (f .key)) (p .0 f b) (ap (labels P) q), in-order-once P es (p .1))
+
 module _ (P : Profile) (T : Cells) where
   -- The entries es come before the entries fs.
   abbrev AllBefore : List Entry → List Entry → Type 0
@@ -59,10 +70,6 @@ module _ (P : Profile) (T : Cells) where
   in-order-append [] fs p q b = q
   in-order-append (e ∷ es) fs p q b =
       (λ f a. ⊎-elim (p .0 f) (b e f (inl refl)) (among-either f fs es a), in-order-append es fs (p .1) q (λ d f a. b d f (inr a)))
-
-  in-order-once : (es : List Entry) → InOrder P es → Once es
-  in-order-once [] p = tt
-  in-order-once (e ∷ es) p = (λ a. before-other (labels P (e .key)) (labels P (e .key)) (p .0 e a) refl, in-order-once es (p .1))
 
   -- ---- the labels of a cell
 
@@ -231,15 +238,6 @@ module _ {P : Profile} (r : RoundTrip P) {t : Table} (w : Sound P t) where
   pub entries-in-order : InOrder P (entries P (t .cells))
   entries-in-order = entries-visit P (t .cells) r (w .tree) .order
 
-  pub entries-once : Once (entries P (t .cells))
-  entries-once = in-order-once P (t .cells) (entries P (t .cells)) entries-in-order
-
-keys-among : (k : List ℕ) (es : List Entry) → Among k (map (λ (e : Entry). e .key) es) → (f : Entry) × Among f es × (k ≡ f .key)
-keys-among k [] a = absurd a
-keys-among k (f ∷ es) (inl p) = (f, inl refl, p)
-keys-among k (f ∷ es) (inr a) = let (g, b, q) = keys-among k es a in (g, inr b, q)
-
-in-order-keys : (P : Profile) (es : List Entry) → InOrder P es → Once (map (λ (e : Entry). e .key) es)
-in-order-keys P [] p = tt
-in-order-keys P (e ∷ es) p = (λ a. let (f, b, q) = keys-among (e .key) es a in
-    before-other (labels P (e .key)) (labels P (f .key)) (p .0 f b) (ap (labels P) q), in-order-keys P es (p .1))
+  -- No identifier stands twice.
+  pub entries-once : Once (map (λ (e : Entry). e .key) (entries P (t .cells)))
+  entries-once = in-order-once P (entries P (t .cells)) entries-in-order

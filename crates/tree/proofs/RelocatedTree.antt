@@ -8,7 +8,7 @@ use Rattle.numbers.proofs.Cases.{same?, some?}
 use Rattle.rules.specs.WhatTheIndexDoes.{Profile, labels}
 use Rattle.rules.specs.Table.{Cells, Table, free, next, lookup}
 use Rattle.rules.specs.Insertion.{renamed, relocate}
-use Rattle.tree.specs.Soundness.{Held, aLeaf, anInner, Fruit, Sits, Tree, Deep, Sound}
+use Rattle.tree.specs.Soundness.{Held, aLeaf, anInner, Fruit, Sits, Tree, Sound}
 use Rattle.tree.specs.Moved.{Fit}
 use Rattle.tree.proofs.Steps.{next-step, lookup-same}
 use Rattle.tree.proofs.Trees.{bare-step}

@@ -14,7 +14,7 @@ use Rattle.rules.specs.Insertion.{to, renamed, moved}
 use Rattle.tree.specs.Soundness.{Step, rowAt, Tree}
 use Rattle.tree.specs.Moved.{Fit}
 use Rattle.tree.proofs.Steps.{step-next, step?}
-use Rattle.tree.proofs.Trees.{zero-parent, based-pos, live, step-used, no-loop, path-of}
+use Rattle.tree.proofs.Trees.{zero-parent, based-pos, live, step-used, no-loop}
 
 module _ {P : Profile} {T : Cells} {size : ℕ} (w : Tree P T size) {s b q : ℕ} (m : Fit T s b q) where
   abbrev pub M : Cells

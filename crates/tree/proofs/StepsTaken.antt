@@ -12,28 +12,31 @@ use Rattle.rules.specs.Table.{Table}
 use Rattle.rules.specs.Insertion.{relocate}
 use Rattle.rules.specs.DeletionAndCompaction.{Moves, trimmed, compactionStep, compactionSteps, compacted}
 use Rattle.rules.proofs.Choices.{branch, not-zero}
-use Rattle.tree.specs.StepsTaken.{after, Lowers, Taken}
-use Rattle.tree.proofs.Compaction.{owner, target, step-cases}
+use Rattle.tree.specs.StepsTaken.{after, owner, target, Lowers, Taken}
+use Rattle.tree.proofs.Compaction.{step-cases}
 
 module _ (P : Profile) where
   -- ---- one step
 
   module _ (t : Table) where
     pub step-once : compactionStep P t .count ≤ 1
-    step-once = step-cases P t (λ m. m .count ≤ 1) (λ h k. omega arith) (omega arith)
+    step-once = step-cases P t (λ m. m .count ≤ 1) (λ _. omega arith) (λ _. omega arith)
 
-    pub step-lowers : compactionStep P t .count ≡ 1 → Lowers P t
+    -- A step moves exactly if that lowers the base.
+    pub step-lowers : (compactionStep P t .count ≡ 1) ↔ Lowers P t
+    step-lowers = (
+      step-cases P t (λ m. m .count ≡ 1 → Lowers P t) (λ l _. l) (λ _ e. absurd (omega arith)),
+      step-cases P t (λ m. Lowers P t → m .count ≡ 1) (λ _ _. refl) (λ d l. absurd (d l)),
+    )
+
+    -- What then moves, and that nothing else does.
+    pub step-moves : compactionStep P t .count ≡ 1 → compactionStep P t .table .cells ≡ relocate (t .cells) (owner P t) (target P t)
     unfolding trimmed
-    step-lowers e =
-        let (k, is) = step-cases P t Moving (λ h k _. (k, refl)) (λ e. absurd (omega arith)) e in
-        record { cell = owner P t; base = target P t; lower = k; is = is }
-      where
-        Moving : Moves → Type 0
-        Moving m = m .count ≡ 1 → (target P t < t .cells (owner P t) .base) × (m .table .cells ≡ relocate (t .cells) (owner P t) (target P t))
+    step-moves = step-cases P t (λ m. m .count ≡ 1 → m .table .cells ≡ relocate (t .cells) (owner P t) (target P t)) (λ _ _. refl) (λ _ e. absurd (omega arith))
 
     pub step-stays : compactionStep P t .count ≡ 0 → compactionStep P t .table .cells ≡ t .cells
     unfolding trimmed
-    step-stays = step-cases P t (λ m. m .count ≡ 0 → m .table .cells ≡ t .cells) (λ h k e. absurd (omega arith)) (λ e. refl)
+    step-stays = step-cases P t (λ m. m .count ≡ 0 → m .table .cells ≡ t .cells) (λ _ e. absurd (omega arith)) (λ _ _. refl)
 
   -- ---- many steps
 
@@ -64,7 +67,7 @@ module _ (P : Profile) where
       each zero l = omega (arith, step-once t)
       each (suc i) l = k .each i (omega arith)
 
-  pub steps-taken : (n : ℕ) (t : Table) → Taken P n t (compactionSteps P n t)
+  steps-taken : (n : ℕ) (t : Table) → Taken P n t (compactionSteps P n t)
   unfolding compactionSteps after
   steps-taken zero t = record {
     most = omega arith;
@@ -77,7 +80,7 @@ module _ (P : Profile) where
       (λ e. stops n t (eqb-true _ _ e)) (λ e. goes-on n t _ (not-zero _ e) (steps-taken n (compactionStep P t .table)))
 
   -- Fewer than n moves are made exactly if, before n are, a step moves nothing.
-  pub fewer-exactly : (n : ℕ) (t : Table) →
+  fewer-exactly : (n : ℕ) (t : Table) →
       (compactionSteps P n t .count < n) ↔ ((i : ℕ) × (i < n) × (compactionStep P (after P i t) .count ≡ 0))
   fewer-exactly n t = (λ h. (compactionSteps P n t .count, h, k .stopped h), fewer)
     where

@@ -18,11 +18,9 @@ use Rattle.rules.specs.Table.{Table, used}
 use Rattle.rules.specs.Rendering.{chained, nextFree, renderCheck}
 use Rattle.rules.proofs.Choices.{branch}
 use Rattle.rules.proofs.Ranges.{first-least, first-low}
-use Rattle.tree.specs.Soundness.{Sound}
 use Rattle.tree.specs.TheChain.{linksFrom, unusedFrom, Unused}
 use Rattle.tree.specs.Members.{Among, Rising}
 use Rattle.tree.proofs.UsedCells.{parentless-unused}
-use Rattle.tree.proofs.Trees.{zero-parent}
 use Rattle.tree.proofs.Elements.{check-link, check-inside}
 
 -- ---- the list of the unused cells

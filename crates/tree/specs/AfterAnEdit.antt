@@ -1,14 +1,14 @@
 -- What is said of a table after an edit.
 use mathlib.Core.Path.{_≡_}
 use mathlib.Core.Logic.{_≢_}
-use mathlib.Core.Bool.{true}
+use mathlib.Core.Bool.{true, false}
 use mathlib.Core.List.{List}
-use Prim.Native.Nat.{ℕ, _≤_}
-use Rattle.rules.specs.WhatTheIndexDoes.{Profile, isIdentifier}
-use Rattle.rules.specs.Table.{Cells, Table, largestUsed, lookup}
+use Prim.Native.Nat.{ℕ, _≤_, _<_}
+use Rattle.rules.specs.WhatTheIndexDoes.{Profile}
+use Rattle.rules.specs.Table.{Cells, Table, used, lookup}
 use Rattle.tree.specs.Soundness.{rowAt, Fruit, Tree, Sound}
 
--- R is a tree with the row n at the path (0: none), and otherwise with the rows of T; every inner cell has a child.
+-- R is a tree with the row n at the path (0: none), and otherwise with the rows of T; every inner cell but the root has a child.
 pub record Meant (P : Profile) (T : Cells) (path : List ℕ) (n : ℕ) (R : Table) : Type 0 where
   pub tree : Tree P (R .cells) (R .size)
   pub here : rowAt (R .cells) path ≡ n
@@ -28,5 +28,6 @@ pub record Same (P : Profile) (t t′ : Table) : Type 0 where
   pub less : t′ .size ≤ t .size
 
 -- The size is the largest used cell.
-abbrev pub Trimmed : Table → Type 0
-Trimmed t = t .size ≡ largestUsed (t .cells) (t .size)
+pub record Trimmed (t : Table) : Type 0 where
+  pub last : used (t .cells) (t .size) ≡ true
+  pub past : (u : ℕ) → t .size < u → used (t .cells) u ≡ false

@@ -2,8 +2,8 @@
 use mathlib.Core.Path.{_≡_}
 use Prim.Native.Nat.{ℕ, zero, suc, _≤_, _<_}
 use Rattle.rules.specs.WhatTheIndexDoes.{Profile}
-use Rattle.rules.specs.Table.{Table}
-use Rattle.rules.specs.Insertion.{relocate}
+use Rattle.rules.specs.Table.{Table, used, largestUsed, childCodes}
+use Rattle.rules.specs.Placement.{placed}
 use Rattle.rules.specs.DeletionAndCompaction.{Moves, compactionStep}
 
 -- The table after k steps, whether they move something or not.
@@ -11,12 +11,21 @@ unfoldable pub after : Profile → ℕ → Table → Table
 after P zero t = t
 after P (suc k) t = after P k (compactionStep P t .table)
 
--- A step that moves: the children of a cell go to a smaller base.
-pub record Lowers (P : Profile) (t : Table) : Type 0 where
-  pub cell : ℕ
-  pub base : ℕ
-  pub lower : base < t .cells cell .base
-  pub is : compactionStep P t .table .cells ≡ relocate (t .cells) cell base
+module _ (P : Profile) (t : Table) where
+  -- The largest used cell, its parent, and the placed base for that parent's children.
+  abbrev pub top : ℕ
+  top = largestUsed (t .cells) (t .size)
+
+  abbrev pub owner : ℕ
+  owner = t .cells top .parent
+
+  abbrev pub target : ℕ
+  target = placed (used (t .cells)) (t .size) (childCodes (t .cells) owner (P .greatest))
+
+  -- A step has something to move: the children of the largest used cell's parent, to a smaller base.
+  pub record Lowers : Type 0 where
+    pub below : 1 < top
+    pub lower : target < t .cells owner .base
 
 -- What n steps at most come to: `moves.count` of them move, one after another; if that is fewer than n, the next moves nothing.
 pub record Taken (P : Profile) (n : ℕ) (t : Table) (moves : Moves) : Type 0 where

@@ -8,7 +8,7 @@ use lib.Dec.{ltb, eqb}
 use Rattle.rules.specs.declared.Answer.{Answer}
 use Rattle.rules.specs.declared.Answer.the-variants.{Done, Key, Number, Absent, NoRoom}
 use Rattle.rules.specs.Answers.{found, present}
-use Rattle.rules.specs.WhatTheIndexDoes.{Profile, isIdentifier}
+use Rattle.rules.specs.WhatTheIndexDoes.{Profile}
 use Rattle.rules.specs.Table.{Table, lookup}
 use Rattle.rules.specs.Insertion.{inserted}
 use Rattle.rules.specs.DeletionAndCompaction.{compacted}
