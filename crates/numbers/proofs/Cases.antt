@@ -1,6 +1,7 @@
 -- Cases of numbers. Assumes nothing.
 use mathlib.Core.Path.{_≡_, refl}
 use mathlib.Core.Logic.{_≢_, _⊎_, inl, inr}
+use mathlib.Core.List.{List, List-discrete}
 use Prim.Native.Nat.{ℕ, zero, suc, _≤_, _<_}
 use native.Mathlib.Decide.{decLe, ℕ-discrete}
 use native.Mathlib.Omega.{arith}
@@ -25,3 +26,11 @@ same? m n = go (ℕ-discrete m n)
 pub some? : (n : ℕ) → (n ≡ 0) ⊎ (1 ≤ n)
 some? zero = inl refl
 some? (suc n) = inr (omega arith)
+
+-- Two lists of numbers are the same or not.
+pub same-list? : (r p : List ℕ) → (r ≡ p) ⊎ (r ≢ p)
+same-list? r p = go (List-discrete ℕ-discrete r p)
+  where
+    go : Dec (r ≡ p) → (r ≡ p) ⊎ (r ≢ p)
+    go (yes e) = inl e
+    go (no d) = inr d

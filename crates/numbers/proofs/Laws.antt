@@ -32,6 +32,14 @@ sides (pos a) (negsuc b) p m = absurd (omega (arith, m))
 sides (negsuc a) (pos b) p m = absurd (omega (arith, m))
 sides (negsuc a) (negsuc b) p m = ap negsuc (omega (arith, m))
 
+pub other-side : (z : ℤ) → 1 ≤ minusOf z → plusOf z ≡ 0
+other-side (pos n) h = absurd (omega arith)
+other-side (negsuc n) h = refl
+
+-- A number below 0 is minus its other side.
+pub minus-is : (z : ℤ) {n : ℕ} → minusOf z ≡ n → 1 ≤ n → z ≡ negative n
+minus-is z {n} e h = sides z (negative n) (other-side z (rw e h) ∙ sym (plus-negative n)) (e ∙ sym (minus-negative n))
+
 -- ---- an element, on either side: f is `plusOf` or `minusOf`
 
 module _ (f : ℤ → ℕ) (nought : f (pos 0) ≡ 0) (xs : List ℤ) (i : ℕ) where

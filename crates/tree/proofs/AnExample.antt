@@ -20,20 +20,14 @@ unfoldable pub answersIn : ℕ → List Command → List Answer
 unfolding within firstFrom codeOf coded isIdentifier labels isRow empty update used largestUsed next walk node lookup childCodes childless greatestOf opens placed fits to renamed moved relocate grow extend insertFrom inserted trimmed prune compactionStep compactionSteps deleted compacted keyAllowed numberAllowed carriedOut answered history
 answersIn last cs = history document01 last empty [] cs .answers
 
-abbrev pub a : List ℕ
-a = 97 ∷ []
-
-abbrev pub ab : List ℕ
-ab = 97 ∷ (98 ∷ [])
-
--- The lines of the example.
-pub example : answersIn 4095 (insert ab 7 ∷ (insert a 9 ∷ (find ab ∷ (delete ab ∷ (find ab ∷ (compact 5 ∷ [])))))) ≡
+-- The lines of the example: `ab` is 97, 98, and `a` is 97.
+pub example : answersIn 4095 (insert (97 ∷ (98 ∷ [])) 7 ∷ (insert (97 ∷ []) 9 ∷ (find (97 ∷ (98 ∷ [])) ∷ (delete (97 ∷ (98 ∷ [])) ∷ (find (97 ∷ (98 ∷ [])) ∷ (compact 5 ∷ [])))))) ≡
     (Done 0 ∷ (Done 1 ∷ (found 7 ∷ (found 7 ∷ (Absent ∷ (Done 0 ∷ []))))))
 unfolding answersIn
 example = refl
 
 -- PRESENT; capital A is no identifier; 0 is no row.
-pub example-refused : answersIn 4095 (insert a 9 ∷ (insert a 3 ∷ (find (65 ∷ []) ∷ (insert ab 0 ∷ [])))) ≡
+pub example-refused : answersIn 4095 (insert (97 ∷ []) 9 ∷ (insert (97 ∷ []) 3 ∷ (find (65 ∷ []) ∷ (insert (97 ∷ (98 ∷ [])) 0 ∷ [])))) ≡
     (Done 0 ∷ (present 9 ∷ (Key ∷ (Number ∷ []))))
 unfolding answersIn
 example-refused = refl

@@ -9,7 +9,7 @@ use native.Mathlib.Omega.{arith}
 use lib.IntN.{ℤ}
 use lib.Dec.{ltb}
 use borrow.Author.Tests.{ltb-true, ltb-false, leb-true}
-use Rattle.numbers.proofs.Cases.{some?}
+use Rattle.numbers.proofs.Cases.{some?, same-list?}
 use Rattle.rules.specs.WhatTheIndexDoes.{Profile, RoundTrip, isIdentifier, isRow, lastCell}
 use Rattle.rules.specs.Table.{Table, empty, lookup}
 use Rattle.rules.specs.ASoundTable.{sound}
@@ -22,7 +22,6 @@ use Rattle.rules.proofs.Choices.{branch₂}
 use Rattle.tree.specs.Soundness.{Sound}
 use Rattle.tree.specs.AfterAnEdit.{Now}
 use Rattle.tree.specs.ThePlainList.{rowIn, without, told, heard, replied, history, Agrees, Together}
-use Rattle.tree.proofs.OneIdentifier.{same-list?}
 use Rattle.tree.proofs.Insertion.{inserted-now, inserted-honest}
 use Rattle.tree.proofs.Compaction.{same-lookup, compacted-same}
 use Rattle.tree.proofs.Deletion.{deleted-now, deleted-less}

@@ -45,7 +45,7 @@ module _ {P : Profile} {T : Cells} {size : ℕ} (w : Tree P T size) {s c : ℕ} 
   put-far : 2 ≤ put
   put-far = omega (arith, a .place .based, a .place .low)
 
-  pub put-one : OneMore T Put put
+  put-one : OneMore T Put put
   put-one = record {
     far = put-far;
     same = update-off T put x;
@@ -84,27 +84,27 @@ module _ {P : Profile} {T : Cells} {size : ℕ} (w : Tree P T size) {s c : ℕ} 
     held = rw (update-at T put x) (a .held);
   }
 
-  pub put-tree : Tree P Put (max size put)
+  put-tree : Tree P Put (max size put)
   put-tree = tree-more put-one (max size put) (omega arith) (omega arith) put-sits w
 
-  pub put-path : (path : List ℕ) → node T path ≡ s → node Put (c ∷ path) ≡ put
+  put-path : (path : List ℕ) → node T path ≡ s → node Put (c ∷ path) ≡ put
   unfolding node
   put-path path e = rw (path-more put-one path e (based-pos w s (a .place .based))) (step-next Put put-step)
 
-  pub put-fruit : Fruit T s → Fruit Put put
+  put-fruit : Fruit T s → Fruit Put put
   put-fruit = fruit-more put-one s c put-step
 
   -- With a leaf put every inner cell has a child.
-  pub leaf-fruit : x .base ≡ 0 → Fruit T s → Fruit Put 0
+  leaf-fruit : x .base ≡ 0 → Fruit T s → Fruit Put 0
   leaf-fruit z f u d h k = put-fruit f u (λ e. omega (arith, ap (λ (y : ℕ). Put y .base) e, ap (λ y. y .base) (update-at T put x))) h k
 
-  pub put-inner : x .row ≡ 0 → (path : List ℕ) → rowAt Put path ≡ rowAt T path
+  put-inner : x .row ≡ 0 → (path : List ℕ) → rowAt Put path ≡ rowAt T path
   put-inner z = row-inner put-one (rw (update-at T put x) z)
 
-  pub put-here : (path : List ℕ) → node T path ≡ s → rowAt Put (c ∷ path) ≡ x .row
+  put-here : (path : List ℕ) → node T path ≡ s → rowAt Put (c ∷ path) ≡ x .row
   put-here path e = ap (λ (u : ℕ). Put u .row) (put-path path e) ∙ ap (λ y. y .row) (update-at T put x)
 
-  pub put-other : (path : List ℕ) → node T path ≡ s → (r : List ℕ) → r ≢ c ∷ path → rowAt Put r ≡ rowAt T r
+  put-other : (path : List ℕ) → node T path ≡ s → (r : List ℕ) → r ≢ c ∷ path → rowAt Put r ≡ rowAt T r
   put-other path e r d = row-other put-one r (λ f. d (one-path put-tree r (c ∷ path) f (put-path path e) (omega (arith, put-far))))
 
 -- ---- a branch

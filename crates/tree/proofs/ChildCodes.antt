@@ -13,7 +13,7 @@ use Rattle.rules.specs.WhatTheIndexDoes.{Profile}
 use Rattle.rules.specs.Table.{Cells, next, childCodes, childless}
 use Rattle.rules.proofs.Choices.{branch}
 use Rattle.tree.specs.Soundness.{Step, Tree}
-use Rattle.tree.specs.Members.{Among}
+use Rattle.tree.specs.Members.{Among, Once}
 use Rattle.tree.proofs.Steps.{step-next, next-baseless}
 use Rattle.tree.proofs.Trees.{step-low, step-high, step-far}
 
@@ -35,12 +35,19 @@ module _ (T : Cells) (s : ℕ) where
       let d : c ≢ suc k = (λ f. omega (arith, ap (next T s) f)) in lead-codes k c l (omega arith) n)
       (λ e. ⊎-elim (λ f. inl f) (λ d. inr (lead-codes k c l (omega arith) n)) (same? c (suc k)))
 
+  pub codes-once : (k : ℕ) → Once (childCodes T s k)
+  unfolding childCodes
+  codes-once zero = tt
+  codes-once (suc k) = branch (λ (cs : List ℕ). Once cs) (eqb (next T s (suc k)) 0)
+      (λ e. codes-once k)
+      (λ e. (λ a. absurd (omega (arith, codes-lead k (suc k) a .1)), codes-once k))
+
   -- A list with a member is not empty.
   among-length : (cs : List ℕ) (c : ℕ) → Among c cs → 1 ≤ length cs
   among-length [] c m = absurd m
   among-length (d ∷ cs) c m = omega arith
 
-  pub childless-next : (k c : ℕ) → childless T s k ≡ true → 1 ≤ c → c ≤ k → next T s c ≡ 0
+  childless-next : (k c : ℕ) → childless T s k ≡ true → 1 ≤ c → c ≤ k → next T s c ≡ 0
   unfolding childless
   childless-next k c e l h =
       let z : length (childCodes T s k) ≡ 0 = eqb-true _ _ e in

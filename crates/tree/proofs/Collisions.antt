@@ -3,34 +3,25 @@
 use mathlib.Core.Path.{_≡_, refl, sym, ap, _∙_}
 use mathlib.Core.Logic.{_≢_, inl, inr, ⊎-elim}
 use mathlib.Core.List.{List, [], _∷_}
-use Prim.Native.Nat.{ℕ, zero, suc, _+_, _≤_, max}
+use Prim.Native.Nat.{ℕ, _+_, _≤_, max}
 use native.Mathlib.Omega.{arith}
 use lib.ListN.{length}
-use lib.Dec.{eqb}
 use Rattle.numbers.proofs.Cases.{same?}
 use Rattle.rules.specs.WhatTheIndexDoes.{Profile}
 use Rattle.rules.specs.Table.{Cells, used, next, node, childCodes}
 use Rattle.rules.specs.Placement.{greatestOf, placed}
 use Rattle.rules.specs.Insertion.{relocate, Course, grow}
-use Rattle.rules.proofs.Choices.{branch}
 use Rattle.tree.specs.Soundness.{Tree}
 use Rattle.tree.specs.Moved.{Fit, Still, Changed, Moved}
-use Rattle.tree.specs.Members.{Among, Once}
+use Rattle.tree.specs.Members.{Among}
 use Rattle.tree.proofs.Steps.{step-next, next-step, last-step}
 use Rattle.tree.proofs.Trees.{one-path}
-use Rattle.tree.proofs.Placement.{greatest-least}
-use Rattle.tree.proofs.ChildCodes.{codes-lead, step-among}
+use Rattle.tree.proofs.Placement.{among-greatest}
+use Rattle.tree.proofs.ChildCodes.{codes-lead, codes-once, step-among}
 use Rattle.tree.proofs.PlacedChildren.{placed-clear, child-among, placed-fit}
 use Rattle.tree.proofs.Relocation.{ρ, s-pos, child-changes, to-other, to-pos, node-moved, s-moved, clear-moved}
-use Rattle.tree.proofs.RelocatedTree.{tree-moved}
+use Rattle.tree.proofs.RelocatedTree.{relocate-tree}
 use Rattle.tree.proofs.Branches.{Place}
-
-codes-once : (T : Cells) (s k : ℕ) → Once (childCodes T s k)
-unfolding childCodes
-codes-once T s zero = tt
-codes-once T s (suc k) = branch (λ (cs : List ℕ). Once cs) (eqb (next T s (suc k)) 0)
-    (λ e. codes-once T s k)
-    (λ e. (λ a. absurd (omega (arith, codes-lead T s k (suc k) a .1)), codes-once T s k))
 
 module _ {P : Profile} {T : Cells} {size : ℕ} (w : Tree P T size) (s c : ℕ) (based : 1 ≤ T s .base) where
   -- The codes of the children, and the base to which they move.
@@ -44,9 +35,8 @@ module _ {P : Profile} {T : Cells} {size : ℕ} (w : Tree P T size) (s c : ℕ) 
   collide-fit = placed-fit w s based (c ∷ codes) (λ d a. inr a)
 
   pub collide-tree : Tree P (relocate T s base′) (max size (base′ + greatestOf (c ∷ codes)))
-  unfolding relocate
-  collide-tree = tree-moved w collide-fit (max size (base′ + greatestOf (c ∷ codes))) (omega arith) (λ d k.
-      omega (arith, greatest-least (c ∷ codes) d (child-among w s based (c ∷ codes) (λ d a. inr a) d k)))
+  collide-tree = relocate-tree w s base′ collide-fit (max size (base′ + greatestOf (c ∷ codes))) (omega arith) (λ d k.
+      omega (arith, among-greatest (c ∷ codes) d (child-among w s based (c ∷ codes) (λ d a. inr a) d k)))
 
   pub collide-base : relocate T s base′ s .base ≡ base′
   unfolding relocate

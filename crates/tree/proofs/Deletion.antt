@@ -1,4 +1,5 @@
--- What deleting an identifier means for lookups, and that the table stays sound. Assumes nothing.
+-- What deleting an identifier means: it is gone, every other keeps its row, and the table stays sound and is trimmed. Assumes
+-- nothing.
 use mathlib.Core.Path.{sym, subst}
 use mathlib.Core.List.{List, _∷_, map, reverse}
 use Prim.Native.Nat.{ℕ, _≤_}

@@ -41,7 +41,7 @@ module _ (x : Content) where
       (λ h. rw (ne-eqb (x .row) 0 (λ e. omega arith)) (plus-negative (x .row) ∙ sym (one h)))
       (some? (x .row))
 
-pub base-held : (t : Table) (i : ℕ) → 1 ≤ i → baseOf t i ≡ baseHolds (t .cells i)
+base-held : (t : Table) (i : ℕ) → 1 ≤ i → baseOf t i ≡ baseHolds (t .cells i)
 unfolding baseOf
 base-held t i h = rw (ne-eqb i 0 (λ e. omega arith))
 
@@ -100,11 +100,11 @@ module _ (t : Table) (n : ℕ) where
   unfolding renderBase
   base-length = elements-length (baseOf t) n 0
 
-  pub base-inside : (i : ℕ) → i < n → getD (renderBase n t) i (positive 0) ≡ baseOf t i
+  base-inside : (i : ℕ) → i < n → getD (renderBase n t) i (positive 0) ≡ baseOf t i
   unfolding renderBase
   base-inside = elements-inside (baseOf t) n
 
-  pub base-beyond : (i : ℕ) → n ≤ i → getD (renderBase n t) i (positive 0) ≡ positive 0
+  base-beyond : (i : ℕ) → n ≤ i → getD (renderBase n t) i (positive 0) ≡ positive 0
   unfolding renderBase
   base-beyond = elements-past (baseOf t) n
 
@@ -117,7 +117,7 @@ module _ (K : Kind) (P : Profile) (t : Table) (n : ℕ) where
   unfolding renderCheck
   check-inside = elements-inside (checkOf K P t) n
 
-  pub check-beyond : (i : ℕ) → n ≤ i → getD (renderCheck K P n t) i (positive 0) ≡ positive 0
+  check-beyond : (i : ℕ) → n ≤ i → getD (renderCheck K P n t) i (positive 0) ≡ positive 0
   unfolding renderCheck
   check-beyond = elements-past (checkOf K P t) n
 
@@ -162,7 +162,7 @@ module _ (K : Kind) {P : Profile} (t : Table) (w : Tree P (t .cells) (t .size)) 
       (λ h. check-beyond K P t n i h ∙ sym (check-past K P t i (past-unused w i (omega arith)) (omega arith)))
       (lt-or-ge i n)
 
-  pub check-plus : (i : ℕ) → i ≢ 1 → plusAt (renderCheck K P n t) i ≡ t .cells i .parent
+  check-plus : (i : ℕ) → i ≢ 1 → plusAt (renderCheck K P n t) i ≡ t .cells i .parent
   check-plus i d = ap plusOf (check-at i) ∙ plus-check K P t i d
 
   abbrev base : List ℤ

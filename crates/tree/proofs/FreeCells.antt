@@ -11,7 +11,7 @@ use lib.IntN.{ℤ}
 use lib.Dec.{ltb, eqb}
 use borrow.Author.Tests.{lt-ltb, le-leb, leb-true, eq-eqb, eqb-true}
 use Rattle.numbers.specs.Stored.{positive, minusOf, minusAt}
-use Rattle.numbers.proofs.Laws.{minus-negative, one-side}
+use Rattle.numbers.proofs.Laws.{minus-negative, one-side, minus-is}
 use Rattle.numbers.proofs.Cases.{lt-or-ge, same?, some?}
 use Rattle.rules.specs.Table.{Cells, Table, free, used}
 use Rattle.rules.specs.ASoundTable.{holds, sizeAt, freeAt, nextFreeAt, rule2, rule3}
@@ -20,10 +20,10 @@ use Rattle.rules.specs.PlainMethod.{plain, plainRule2, plainRule3}
 use Rattle.rules.proofs.Choices.{both, join}
 use Rattle.rules.proofs.Ranges.{first-low, first-same}
 use Rattle.tree.proofs.UsedCells.{other-parent, unused-parent}
-use Rattle.tree.proofs.ReadTests.{minus-is, holds-is, is-holds, element-free, free-element}
+use Rattle.tree.proofs.ReadTests.{holds-is, is-holds, element-free, free-element}
 use Rattle.tree.proofs.ReadTests.{Bounded, used-parent, to-unused, unused-to, Vacant}
 
-pub next-after : (t : Table) (i : ℕ) → i < nextFree t i
+next-after : (t : Table) (i : ℕ) → i < nextFree t i
 unfolding nextFree
 next-after t i = first-low _ (t .size) (suc i)
 

@@ -11,7 +11,7 @@ use lib.IntN.{ℤ}
 use lib.Dec.{leb, eqb}
 use borrow.Author.Tests.{eq-eqb, ne-eqb, eqb-true, le-leb, leb-true, not-true}
 use Rattle.numbers.specs.Stored.{positive, plusAt, minusAt}
-use Rattle.numbers.proofs.Laws.{one-side, sides}
+use Rattle.numbers.proofs.Laws.{one-side, sides, other-side}
 use Rattle.numbers.proofs.Cases.{lt-or-ge, same?, some?}
 use Rattle.rules.specs.WhatTheIndexDoes.{Profile, isRow}
 use Rattle.rules.specs.Table.{Cells, Table, free, used, node}
@@ -26,7 +26,7 @@ use Rattle.tree.proofs.Trees.{row-low, held-inner, held-end, used-pos, 
 use Rattle.tree.proofs.Elements.{check-root, check-used, check-link, check-past, base-length, check-length}
 use Rattle.tree.proofs.Elements.{read-base, read-row, base-at, base-plus, base-minus, check-at}
 use Rattle.tree.proofs.Climbs.{PathTo, path-home, home-path}
-use Rattle.tree.proofs.ReadTests.{other-side, holds-is, element-free, lengths-are, header, Ruled}
+use Rattle.tree.proofs.ReadTests.{holds-is, element-free, lengths-are, header, Ruled}
 use Rattle.tree.proofs.ReadTests.{used-parent, used-base, used-row, used-inside, parent-base, others-to, has-child-next}
 
 module _ {K : Kind} {P : Profile} {base check : List ℤ} (r : Ruled K P base check) where
@@ -145,7 +145,7 @@ module _ {K : Kind} {P : Profile} {base check : List ℤ} (r : Ruled K P base ch
     deep-high = let (other, e, l) = path-to (suc (P .limit)) (node T path) (leaf-climbs _ live h .0) in
         omega (arith, l, ap length (one-path tree path other refl e (used-pos tree _ live)))
 
-  pub ruled-sound : Sound P (readTable base check)
+  ruled-sound : Sound P (readTable base check)
   unfolding readTable
   ruled-sound = record {
     tree = tree;

@@ -25,7 +25,7 @@ module _ (P : Profile) (key : List ℕ) where
   unfolding labels
   path-labels = reverseAux-append (map (P .code) key) (END ∷ []) []
 
-  pub labels-length : length (labels P key) ≡ suc (length key)
+  labels-length : length (labels P key) ≡ suc (length key)
   unfolding labels
   labels-length = rw (length-append, length-map) (omega arith)
 
@@ -42,29 +42,29 @@ module _ (P : Profile) (key : List ℕ) where
       let (low, high) = both (leb 1 (length key)) (leb (length key) (P .limit)) (both _ (coded P key) e .0) in
       (leb-true _ _ low, leb-true _ _ high)
 
-  pub is-identifier : coded P key ≡ true → 1 ≤ length key → length key ≤ P .limit → isIdentifier P key ≡ true
+  is-identifier : coded P key ≡ true → 1 ≤ length key → length key ≤ P .limit → isIdentifier P key ≡ true
   unfolding isIdentifier
   is-identifier h low high = rw (inside 1 (P .limit) (length key) low high, h)
 
 module _ {P : Profile} (r : RoundTrip P) where
-  code-inj : (a b : ℕ) → 1 ≤ P .code b → P .code a ≡ P .code b → a ≡ b
-  code-inj a b k e = sym (r .back a (omega arith)) ∙ ap (P .character) e ∙ r .back b k
+  code-tells : (a b : ℕ) → 1 ≤ P .code b → P .code a ≡ P .code b → a ≡ b
+  code-tells a b k e = sym (r .back a (omega arith)) ∙ ap (P .character) e ∙ r .back b k
 
-  codes-inj : (j k : List ℕ) → coded P k ≡ true → map (P .code) j ≡ map (P .code) k → j ≡ k
+  codes-tell : (j k : List ℕ) → coded P k ≡ true → map (P .code) j ≡ map (P .code) k → j ≡ k
   unfolding coded
-  codes-inj [] [] g e = refl
-  codes-inj [] (b ∷ k) g e = absurd (nil≢cons e)
-  codes-inj (a ∷ j) [] g e = absurd (cons≢nil e)
-  codes-inj (a ∷ j) (b ∷ k) g e =
+  codes-tell [] [] g e = refl
+  codes-tell [] (b ∷ k) g e = absurd (nil≢cons e)
+  codes-tell (a ∷ j) [] g e = absurd (cons≢nil e)
+  codes-tell (a ∷ j) (b ∷ k) g e =
       let (g₁, g₂) = both (leb 1 (P .code b)) (coded P k) g in
-      ap₂ _∷_ (code-inj a b (leb-true _ _ g₁) (head-eq-of-cons-eq e)) (codes-inj j k g₂ (tail-eq-of-cons-eq e))
+      ap₂ _∷_ (code-tells a b (leb-true _ _ g₁) (head-eq-of-cons-eq e)) (codes-tell j k g₂ (tail-eq-of-cons-eq e))
 
-  pub labels-inj : (j k : List ℕ) → coded P k ≡ true → labels P j ≡ labels P k → j ≡ k
+  labels-tell : (j k : List ℕ) → coded P k ≡ true → labels P j ≡ labels P k → j ≡ k
   unfolding labels
-  labels-inj j k g e = codes-inj j k g (append-cancel-right _ _ (END ∷ []) e)
+  labels-tell j k g e = codes-tell j k g (append-cancel-right _ _ (END ∷ []) e)
 
-  pub path-inj : (j k : List ℕ) → coded P k ≡ true → reverse (labels P j) ≡ reverse (labels P k) → j ≡ k
-  path-inj j k g e = labels-inj j k g (sym (reverse-reverse (labels P j)) ∙ ap reverse e ∙ reverse-reverse (labels P k))
+  pub path-tells : (j k : List ℕ) → coded P k ≡ true → reverse (labels P j) ≡ reverse (labels P k) → j ≡ k
+  path-tells j k g e = labels-tell j k g (sym (reverse-reverse (labels P j)) ∙ ap reverse e ∙ reverse-reverse (labels P k))
 
 -- ---- live identifiers
 
@@ -82,7 +82,7 @@ module _ {P : Profile} {T : Cells} {size : ℕ} (w : Tree P T size) where
       let t = next T s (P .code b) in
       rw (le-leb 1 (P .code b) (step-low w (next-step T (walk-used t (labels P bs) h)))) (walk-coded t bs h)
 
-  pub live-coded : (key : List ℕ) → 1 ≤ lookup P T key → coded P key ≡ true
+  live-coded : (key : List ℕ) → 1 ≤ lookup P T key → coded P key ≡ true
   unfolding lookup
   live-coded key h = walk-coded 1 key (row-pos w _ h)
 

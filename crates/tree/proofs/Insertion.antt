@@ -1,4 +1,5 @@
--- What inserting an identifier means for lookups, and that the table stays sound. Assumes nothing.
+-- What inserting an identifier means: it has its row, every other what it had, and the table stays sound; what the count counts,
+-- and when there is room. Assumes nothing.
 use mathlib.Core.Path.{_≡_, refl, sym, _∙_}
 use mathlib.Core.Bool.{true}
 use mathlib.Core.List.{List, [], _∷_, map, reverse}
@@ -56,7 +57,7 @@ module _ {P : Profile} (trip : RoundTrip P) where
       pub inserted-count : Moved (t .cells) (inserted P last t key n .table .cells) (inserted P last t key n .count)
       inserted-count = inserted-path key n k row absent .count
 
-    -- Each placement fits exactly if the new size is not past the last cell.
+    -- All placements fit exactly if the new size is not past the last cell.
     pub inserted-honest : (key : List ℕ) (n : ℕ) → isIdentifier P key ≡ true → t .size ≤ last → Honest last (inserted P last t key n)
     unfolding inserted labels
     inserted-honest [] n k h = absurd (omega (arith, identifier-short P [] k))

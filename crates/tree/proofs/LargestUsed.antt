@@ -11,7 +11,7 @@ use Rattle.tree.specs.Soundness.{Tree}
 use Rattle.tree.proofs.UsedCells.{parent-used, other-parent}
 
 module _ (T : Cells) where
-  pub largest-pos : (k : ℕ) → 1 ≤ largestUsed T k
+  largest-pos : (k : ℕ) → 1 ≤ largestUsed T k
   unfolding largestUsed
   largest-pos zero = omega arith
   largest-pos (suc k) = branch (λ (m : ℕ). 1 ≤ m) (used T (suc k)) (λ e. omega arith) (λ e. largest-pos k)

@@ -58,8 +58,11 @@ key-among key (f ∷ es) (inr a) = let (g, b, q) = key-among key es a in (g, inr
 
 in-order-once : (P : Profile) (es : List Entry) → InOrder P es → Once (map (λ (e : Entry). e .key) es)
 in-order-once P [] p = tt
-in-order-once P (e ∷ es) p = (λ a. let (f, b, q) = key-among (e .key) es a in
-    before-other (labels P (e .key)) (labels P (f .key)) (p .0 f b) (ap (labels P) q), in-order-once P es (p .1))
+in-order-once P (e ∷ es) p = (
+  λ a. let (f, b, q) = key-among (e .key) es a in
+      before-other (labels P (e .key)) (labels P (f .key)) (p .0 f b) (ap (labels P) q),
+  in-order-once P es (p .1),
+)
 
 module _ (P : Profile) (T : Cells) where
   -- The entries es come before the entries fs.

@@ -1,4 +1,5 @@
--- The loop that moves one child after another makes the relocation. Assumes nothing.
+-- The loop that moves one child after another makes the relocation. `Midway` says what stands where after some of the moves, for
+-- the program that makes them. Assumes nothing.
 use mathlib.Core.Path.{_≡_, refl, sym, ap, _∙_, fun-ext}
 use mathlib.Core.Logic.{_≢_, _⊎_, inl, inr, ⊎-elim}
 use mathlib.Core.Bool.{Bool, cond, _&&_, and-false}
@@ -78,8 +79,8 @@ module _ {P : Profile} {T : Cells} {size : ℕ} (w : Tree P T size) {s b q : ℕ
   went-kept : (k x y : ℕ) → Gone k x → Kept w m y → τ k x ≢ y
   went-kept k x y (e, h) g f = g (rw (sym f ∙ went k x (e, h) ∙ sym (to-child w m x e), to-place w m x e) e)
 
-  τ-inj : (k x y : ℕ) → Kept w m x → Kept w m y → τ k x ≡ τ k y → x ≡ y
-  τ-inj k x y gx gy e = go (gone? k x) (gone? k y)
+  τ-same : (k x y : ℕ) → Kept w m x → Kept w m y → τ k x ≡ τ k y → x ≡ y
+  τ-same k x y gx gy e = go (gone? k x) (gone? k y)
     where
       go : Gone k x ⊎ (τ k x ≡ x) → Gone k y ⊎ (τ k y ≡ y) → x ≡ y
       go (inl g) (inl h) = omega (arith, e, went k x g, went k y h, child-far w m x (g .0), child-far w m y (h .0))
@@ -89,17 +90,17 @@ module _ {P : Profile} {T : Cells} {size : ℕ} (w : Tree P T size) {s b q : ℕ
 
   -- ---- what they then hold
 
-  -- What the cell t of before holds.
-  unfoldable pub holds : ℕ → ℕ → Content
-  holds k t = record { parent = τ k (T t .parent); base = T t .base; row = T t .row }
+  -- What the cell t of before contentThen.
+  unfoldable pub contentThen : ℕ → ℕ → Content
+  contentThen k t = record { parent = τ k (T t .parent); base = T t .base; row = T t .row }
 
   -- The cell u is that of a cell of before, or free.
   abbrev pub Comes : ℕ → Cells → ℕ → Type 0
   Comes k H u = ((t : ℕ) × Kept w m t × (τ k t ≡ u)) ⊎ (H u ≡ free)
 
   -- H are the cells after the children with codes up to k have moved.
-  pub record Inv (k : ℕ) (H : Cells) : Type 0 where
-    pub at : (t : ℕ) → Kept w m t → H (τ k t) ≡ holds k t
+  pub record Midway (k : ℕ) (H : Cells) : Type 0 where
+    pub at : (t : ℕ) → Kept w m t → H (τ k t) ≡ contentThen k t
     pub from : (u : ℕ) → Comes k H u
 
   start-from : (u : ℕ) → Comes 0 T u
@@ -107,14 +108,14 @@ module _ {P : Profile} {T : Cells} {size : ℕ} (w : Tree P T size) {s b q : ℕ
       (λ e. let (h, z) = place-clear w m u e in inr (w .blank u (λ v. omega (arith, m .new)) z))
       (λ d. inl (u, d, τ-zero u)) (same? (T (u - q + b) .parent) s)
 
-  start : Inv 0 T
-  unfolding holds
+  start : Midway 0 T
+  unfolding contentThen
   start = record { at = λ t g. rw (τ-zero t, τ-zero (T t .parent)); from = start-from }
 
-  module _ (k : ℕ) {H : Cells} (i : Inv k H) where
+  module _ (k : ℕ) {H : Cells} (i : Midway k H) where
     -- No child has the code suc k.
-    skip : T (b + suc k) .parent ≢ s → Inv (suc k) H
-    unfolding holds
+    skip : T (b + suc k) .parent ≢ s → Midway (suc k) H
+    unfolding contentThen
     skip d = record {
       at = λ t g. rw (same t, same (T t .parent)) (i .at t g);
       from = λ u. ⊎-elim (λ (t, g, f). inl (t, g, same t ∙ f)) inr (i .from u);
@@ -141,7 +142,7 @@ module _ {P : Profile} {T : Cells} {size : ℕ} (w : Tree P T size) {s b q : ℕ
       old-went = went (suc k) old (e, omega arith) ∙ (omega arith)
 
       at-old : (t : ℕ) → Kept w m t → τ k t ≡ old → t ≡ old
-      at-old t g v = τ-inj k t old g old-kept (v ∙ sym old-still)
+      at-old t g v = τ-same k t old g old-kept (v ∙ sym old-still)
 
       at-new : (t : ℕ) → Kept w m t → τ k t ≢ new
       at-new t g v = ⊎-elim
@@ -153,15 +154,15 @@ module _ {P : Profile} {T : Cells} {size : ℕ} (w : Tree P T size) {s b q : ℕ
           (λ (f : y ≡ old). rw (f, eq-eqb _ _ old-still) (sym old-went))
           (λ d. rw (ne-eqb _ _ (λ v. d (at-old y g v))) (sym (onward k y (λ h. d)))) (same? y old)
 
-      holds-then : (t : ℕ) → under old new (holds k t) ≡ holds (suc k) t
-      unfolding holds under
+      holds-then : (t : ℕ) → under old new (contentThen k t) ≡ contentThen (suc k) t
+      unfolding contentThen under
       holds-then t = rw (parent-then (T t .parent) (parent-kept w m t))
 
-      old-holds : (j : ℕ) → holds j old ≡ T old
-      unfolding holds
+      old-holds : (j : ℕ) → contentThen j old ≡ T old
+      unfolding contentThen
       old-holds j = λ i. record { parent = (ap (τ j) e ∙ τ-own j ∙ sym e) i; base = T old .base; row = T old .row }
 
-      -- The child still holds what it held.
+      -- The child still contentThen what it held.
       pub old-at : H old ≡ T old
       old-at = rw old-still at (i .at old old-kept) ∙ old-holds k
 
@@ -170,7 +171,7 @@ module _ {P : Profile} {T : Cells} {size : ℕ} (w : Tree P T size) {s b q : ℕ
       new-free = ⊎-elim (λ (t, g, f). absurd (at-new t g f)) (λ f. f) (i .from new)
 
       parent-old : (t : ℕ) → Kept w m t → H (τ k t) .parent ≡ old → T t .parent ≡ old
-      unfolding holds
+      unfolding contentThen
       parent-old t g h = at-old (T t .parent) (parent-kept w m t) (rw (i .at t g) at h)
 
       -- Its own children are still where they were.
@@ -179,7 +180,7 @@ module _ {P : Profile} {T : Cells} {size : ℕ} (w : Tree P T size) {s b q : ℕ
           (λ (t, g, f). let p = parent-old t g (rw f h) in rw (sym (stays k t (λ (x, l). s-alone w m (rw (sym p ∙ x) at e))) ∙ f) at p)
           (λ f. absurd (omega (arith, ap (λ x. x .parent) f))) (i .from v)
 
-      at-then : (t : ℕ) → Kept w m t → hop H old new (τ (suc k) t) ≡ holds (suc k) t
+      at-then : (t : ℕ) → Kept w m t → hop H old new (τ (suc k) t) ≡ contentThen (suc k) t
       at-then t g = ⊎-elim
           (λ (f : t ≡ old). rw (f, old-went, hop-new H old new) (old-at ∙ sym (old-holds (suc k))))
           (λ d. rw (onward k t (λ h. d), hop-else H old new (τ k t) (at-new t g) (λ v. d (at-old t g v)), i .at t g) (holds-then t)) (same? t old)
@@ -197,7 +198,7 @@ module _ {P : Profile} {T : Cells} {size : ℕ} (w : Tree P T size) {s b q : ℕ
           go (inr d) (inr n) (inl (t, g, f)) = inl (t, g, onward k t (λ h v. n (sym f ∙ ap (τ k) v ∙ old-still)) ∙ f)
           go (inr d) (inr n) (inr f) = inr (rw (hop-else H old new u d n, f) free-then)
 
-      step : Inv (suc k) (hop H old new)
+      step : Midway (suc k) (hop H old new)
       step = record { at = at-then; from = from-then }
 
   -- ---- the loop
@@ -205,22 +206,22 @@ module _ {P : Profile} {T : Cells} {size : ℕ} (w : Tree P T size) {s b q : ℕ
   abbrev taken : ℕ → Bool
   taken c = eqb (T (b + c) .parent) s
 
-  pub hops-inv : (k : ℕ) → Inv k (hops taken T b q k)
+  pub hops-midway : (k : ℕ) → Midway k (hops taken T b q k)
   unfolding hops
-  hops-inv zero = start
-  hops-inv (suc k) = branch (Inv (suc k)) (taken (suc k)) (λ e. step k (hops-inv k) (eqb-true _ _ e)) (λ e. skip k (hops-inv k) (eqb-false _ _ e))
+  hops-midway zero = start
+  hops-midway (suc k) = branch (Midway (suc k)) (taken (suc k)) (λ e. step k (hops-midway k) (eqb-true _ _ e)) (λ e. skip k (hops-midway k) (eqb-false _ _ e))
 
   -- The cells after the last code.
   abbrev last : Cells
   last = hops taken T b q (P .greatest)
 
-  last-inv : Inv (P .greatest) last
-  last-inv = hops-inv (P .greatest)
+  last-midway : Midway (P .greatest) last
+  last-midway = hops-midway (P .greatest)
 
   rebase-at : (u : ℕ) → (t : ℕ) × Kept w m t × (ρ w m t ≡ u) → rebase last s q u ≡ M w m u
-  unfolding rebase renamed holds
+  unfolding rebase renamed contentThen
   rebase-at u (t, g, e) =
-      let f : last (ρ w m t) ≡ holds (P .greatest) t = rw (← τ-all t) (last-inv .at t g) in
+      let f : last (ρ w m t) ≡ contentThen (P .greatest) t = rw (← τ-all t) (last-midway .at t g) in
       rw (← e, f, moved-at w m t g, τ-all (T t .parent), to-own w m t g)
 
   rebase-free : (u : ℕ) → M w m u ≡ free → last u ≡ free → rebase last s q u ≡ M w m u
@@ -231,7 +232,7 @@ module _ {P : Profile} {T : Cells} {size : ℕ} (w : Tree P T size) {s b q : ℕ
 
   rebase-moved : (u : ℕ) → rebase last s q u ≡ M w m u
   rebase-moved u = ⊎-elim (rebase-at u)
-      (λ h. ⊎-elim (λ (t, g, e). rebase-at u (t, g, sym (τ-all t) ∙ e)) (rebase-free u h) (last-inv .from u)) (moved-from w m u)
+      (λ h. ⊎-elim (λ (t, g, e). rebase-at u (t, g, sym (τ-all t) ∙ e)) (rebase-free u h) (last-midway .from u)) (moved-from w m u)
 
 pub in-turn-relocates : {P : Profile} {T : Cells} {size : ℕ} → Tree P T size → (s q : ℕ) → Fit T s (T s .base) q → inTurn P T s q ≡ relocate T s q
 unfolding inTurn relocate

@@ -1,27 +1,19 @@
 -- What an edit of one identifier means: a table that differs at its path differs at no other identifier, and stays sound. Assumes
 -- nothing.
 use mathlib.Core.Path.{_≡_, ap, _∙_}
-use mathlib.Core.Logic.{_≢_, _⊎_, inl, inr, ⊎-elim}
+use mathlib.Core.Logic.{⊎-elim}
 use mathlib.Core.Bool.{true}
-use mathlib.Core.List.{List, reverse, List-discrete}
+use mathlib.Core.List.{List, reverse}
 use Prim.Native.Nat.{ℕ, suc, _≤_}
-use native.Mathlib.Decide.{ℕ-discrete}
 use native.Mathlib.Omega.{arith}
 use lib.ListN.{length}
+use Rattle.numbers.proofs.Cases.{same-list?}
 use Rattle.rules.specs.WhatTheIndexDoes.{Profile, RoundTrip, isIdentifier, labels}
 use Rattle.rules.specs.Table.{Table}
 use Rattle.tree.specs.Soundness.{Bare, Deep, Sound}
 use Rattle.tree.specs.AfterAnEdit.{Meant, Now}
 use Rattle.tree.proofs.Steps.{lookup-row, lookup-same}
-use Rattle.tree.proofs.Identifiers.{path-length, path-inj, identifier-coded, identifier-short}
-
--- Two lists of numbers are the same or not.
-pub same-list? : (r p : List ℕ) → (r ≡ p) ⊎ (r ≢ p)
-same-list? r p = go (List-discrete ℕ-discrete r p)
-  where
-    go : Dec (r ≡ p) → (r ≡ p) ⊎ (r ≢ p)
-    go (yes e) = inl e
-    go (no d) = inr d
+use Rattle.tree.proofs.Identifiers.{path-length, path-tells, identifier-coded, identifier-short}
 
 module _ {P : Profile} {t : Table} (w : Sound P t) (key : List ℕ) (n : ℕ) {t′ : Table} (k : isIdentifier P key ≡ true) where
   meant-deep : Meant P (t .cells) (reverse (labels P key)) n t′ → Deep P (t′ .cells)
@@ -38,5 +30,5 @@ module _ {P : Profile} {t : Table} (w : Sound P t) (key : List ℕ) (n : ℕ) {t
     sound = record { tree = m .tree; fruit = m .fruit; bare = bare; deep = meant-deep m };
     here = lookup-row (t′ .cells) P key ∙ m .here;
     else = λ j d. lookup-same (t .cells) (t′ .cells) P j (m .else (reverse (labels P j)) (λ e.
-        d (path-inj trip j key (identifier-coded P key k) e)));
+        d (path-tells trip j key (identifier-coded P key k) e)));
   }

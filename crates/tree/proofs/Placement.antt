@@ -12,11 +12,11 @@ use Rattle.rules.proofs.Choices.{both}
 use Rattle.rules.proofs.Ranges.{first-least, first-low, first-passes}
 use Rattle.tree.specs.Members.{Among}
 
-pub greatest-least : (cs : List ℕ) (c : ℕ) → Among c cs → c ≤ greatestOf cs
+pub among-greatest : (cs : List ℕ) (c : ℕ) → Among c cs → c ≤ greatestOf cs
 unfolding greatestOf
-greatest-least [] c m = absurd m
-greatest-least (d ∷ cs) c (inl e) = omega arith
-greatest-least (d ∷ cs) c (inr m) = omega (arith, greatest-least cs c m)
+among-greatest [] c m = absurd m
+among-greatest (d ∷ cs) c (inl e) = omega arith
+among-greatest (d ∷ cs) c (inr m) = omega (arith, among-greatest cs c m)
 
 module _ (used : ℕ → Bool) where
   -- A base opens exactly if each code's cell is unused.

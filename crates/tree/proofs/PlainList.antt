@@ -13,7 +13,7 @@ use Rattle.tree.specs.Members.{Among}
 
 -- ---- identifiers
 
-pub same-key : (j k : List ℕ) → sameKey j k ≡ true → j ≡ k
+same-key : (j k : List ℕ) → sameKey j k ≡ true → j ≡ k
 unfolding sameKey
 same-key [] [] e = refl
 same-key [] (d ∷ ds) e = absurd (true≢false (sym e))

@@ -1,5 +1,5 @@
--- A deletion: no row stands at the path, every other path has the row it had, and no inner cell is left without a child. Assumes
--- nothing.
+-- Freeing the leaf at the end of a path and each parent left without a child: no row stands at the path, every other path has the
+-- row it had. Assumes nothing.
 use mathlib.Core.Path.{_≡_, refl, sym, ap, _∙_}
 use mathlib.Core.Logic.{_≢_}
 use mathlib.Core.Bool.{true, false}
@@ -21,7 +21,7 @@ use Rattle.tree.proofs.Relocation.{row-moved, s-moved}
 use Rattle.tree.proofs.RelocatedTree.{tree-moved, fruit-moved}
 use Rattle.tree.proofs.OneCell.{update-at, update-off, OneMore, path-less, row-other, row-gone, row-inner, fruit-less, tree-less}
 
--- R is a tree with the rows of T, in which every inner cell has a child.
+-- R is a tree with the rows of T, in which every inner cell but the root has a child.
 record Alike (P : Profile) (T : Cells) (size : ℕ) (R : Cells) : Type 0 where
   tree : Tree P R size
   rows : (r : List ℕ) → rowAt R r ≡ rowAt T r

@@ -10,8 +10,8 @@ use lib.IntN.{ℤ}
 use lib.Dec.{leb, eqb}
 use borrow.Author.Tests.{eq-eqb, ne-eqb, eqb-true, le-leb, lt-leb, leb-true, leb-false}
 use Rattle.numbers.specs.Stored.{positive, negative, plusOf, minusOf, plusAt, minusAt}
-use Rattle.numbers.proofs.Laws.{plus-negative, minus-negative, one-side, sides}
-use Rattle.numbers.proofs.Cases.{lt-or-ge, some?}
+use Rattle.numbers.proofs.Laws.{plus-negative, sides}
+use Rattle.numbers.proofs.Cases.{lt-or-ge}
 use Rattle.rules.specs.Ranges.{within, eachTo}
 use Rattle.rules.specs.WhatTheIndexDoes.{Profile, rightLengths, lastCell}
 use Rattle.rules.specs.Table.{Content, Cells, free, used, next}
@@ -26,13 +26,6 @@ use Rattle.tree.proofs.Trees.{step-used, step-far}
 use Rattle.tree.proofs.Elements.{same-content, read-base, read-row, read-parent}
 
 -- ---- elements
-
-module _ (z : ℤ) where
-  pub other-side : 1 ≤ minusOf z → plusOf z ≡ 0
-  other-side h = ⊎-elim (λ e. e) (λ p. absurd (omega (arith, one-side z p))) (some? (plusOf z))
-
-  pub minus-is : {n : ℕ} → minusOf z ≡ n → 1 ≤ n → z ≡ negative n
-  minus-is {n} e h = sides z (negative n) (other-side (rw e h) ∙ sym (plus-negative n)) (e ∙ sym (minus-negative n))
 
 module _ (xs : List ℤ) (i n : ℕ) where
   pub holds-is : holds xs i n ≡ true → getD xs i (positive 0) ≡ positive n

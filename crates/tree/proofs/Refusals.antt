@@ -22,20 +22,20 @@ module _ (P : Profile) (last : ℕ) (t : Table) where
   -- ---- any refusal
 
   -- An outcome that is not done leaves the table as it was.
-  abbrev Same : Outcome → Type 0
-  Same o = isDone (o .answer) ≡ false → o .table ≡ t
+  abbrev Unchanged : Outcome → Type 0
+  Unchanged o = isDone (o .answer) ≡ false → o .table ≡ t
 
-  carried-same : (c : Command) → Same (carriedOut P last t c)
+  carried-same : (c : Command) → Unchanged (carriedOut P last t c)
   unfolding carriedOut
-  carried-same (insert key n) = branch Same (ltb 0 (lookup P (t .cells) key)) (λ _ _. refl) (λ _. branch Same (inserted P last t key n .fitted)
+  carried-same (insert key n) = branch Unchanged (ltb 0 (lookup P (t .cells) key)) (λ _ _. refl) (λ _. branch Unchanged (inserted P last t key n .fitted)
       (λ _ e. absurd (true≢false e)) (λ _ _. refl))
-  carried-same (delete key) = branch Same (ltb 0 (lookup P (t .cells) key)) (λ _ e. absurd (true≢false e)) (λ _ _. refl)
-  carried-same (find key) = branch Same (ltb 0 (lookup P (t .cells) key)) (λ _ _. refl) (λ _ _. refl)
+  carried-same (delete key) = branch Unchanged (ltb 0 (lookup P (t .cells) key)) (λ _ e. absurd (true≢false e)) (λ _ _. refl)
+  carried-same (find key) = branch Unchanged (ltb 0 (lookup P (t .cells) key)) (λ _ _. refl) (λ _ _. refl)
   carried-same (compact n) = λ e. absurd (true≢false e)
 
   pub refused-unchanged : (whole : Bool) (c : Command) → isDone (answered P last t whole c .answer) ≡ false → answered P last t whole c .table ≡ t
   unfolding answered
-  refused-unchanged whole c = branch Same (keyAllowed P c) (λ _. branch Same (numberAllowed c) (λ _. branch Same whole
+  refused-unchanged whole c = branch Unchanged (keyAllowed P c) (λ _. branch Unchanged (numberAllowed c) (λ _. branch Unchanged whole
       (λ _. carried-same c) (λ _ _. refl)) (λ _ _. refl)) (λ _ _. refl)
 
   -- ---- NO ROOM

@@ -12,7 +12,7 @@ use Rattle.tree.specs.Soundness.{Held, aLeaf, anInner, Fruit, Sits, Tree
 use Rattle.tree.specs.Moved.{Fit}
 use Rattle.tree.proofs.Steps.{next-step, lookup-same}
 use Rattle.tree.proofs.Trees.{bare-step}
-use Rattle.tree.proofs.Relocation.{M, ρ, baseTo, s-pos, child-far, to-child, to-other, used-kept, low-kept, parent-kept, to-zero, to-one, to-pos, moved-at, moved-from, to-inj, base-other, base-after, base-before, step-to, next-moved, node-moved, row-moved}
+use Rattle.tree.proofs.Relocation.{M, ρ, baseTo, s-pos, child-far, to-child, to-other, used-kept, low-kept, parent-kept, to-zero, to-one, to-pos, moved-at, moved-from, to-same, base-other, base-after, base-before, step-to, next-moved, node-moved, row-moved}
 
 module _ {P : Profile} {T : Cells} {size : ℕ} (w : Tree P T size) {s b q : ℕ} (m : Fit T s b q) where
   -- The cell t of before is the cell u afterwards.
@@ -65,7 +65,7 @@ module _ {P : Profile} {T : Cells} {size : ℕ} (w : Tree P T size) {s b q : ℕ
       at : (t : ℕ) → ρ w m t ≡ u → M w m u ≡ renamed T s b q t → M w m u ≡ free
       at t e f =
           let v : ρ w m (T t .parent) ≡ ρ w m 0 = sym (ap (λ x. x .parent) f) ∙ z ∙ sym (to-zero w m) in
-          let n = to-inj w m (T t .parent) 0 (parent-kept w m t) (low-kept w m 0 (omega arith)) v in
+          let n = to-same w m (T t .parent) 0 (parent-kept w m t) (low-kept w m 0 (omega arith)) v in
           let x : T t ≡ free = w .blank t (λ v. d (sym e ∙ ap (ρ w m) v ∙ to-one w m)) n in
           f ∙ renamed-free t x (λ v. omega (arith, ap (λ x. x .base) x, m .old, m .held, ap (λ (x : ℕ). T x .base) v))
 
@@ -100,10 +100,18 @@ module _ {P : Profile} {T : Cells} {size : ℕ} (w : Tree P T size) {s b q : ℕ
       let (c, n) = f (r .before) ne (r .used) (base-before w m (r .before) (rw (r .content) at k)) in
       (c, subst (λ (x : ℕ). 1 ≤ next (M w m) x c) (r .place) (to-next (r .before) c (r .used) n))
 
-  pub lookup-moved : (key : List ℕ) → lookup P (M w m) key ≡ lookup P T key
-  lookup-moved key = lookup-same T (M w m) P key (row-moved w m (reverse (labels P key)))
+-- ---- what the laws say of `relocate`
 
+module _ {P : Profile} {T : Cells} {size : ℕ} (w : Tree P T size) (s q : ℕ) (m : Fit T s (T s .base) q) where
+  pub relocate-tree : (size′ : ℕ) → size ≤ size′ → ((c : ℕ) → T (T s .base + c) .parent ≡ s → q + c ≤ size′) → Tree P (relocate T s q) size′
+  unfolding relocate
+  relocate-tree = tree-moved w m
 
+  pub relocate-lookup : (key : List ℕ) → lookup P (relocate T s q) key ≡ lookup P T key
+  unfolding relocate
+  relocate-lookup key = lookup-same T (M w m) P key (row-moved w m (reverse (labels P key)))
+
+-- The table stays sound, if s has a child: a root without children has to keep base 1.
 pub relocate-sound : {P : Profile} {t : Table} → Sound P t → (s q : ℕ) → Fit (t .cells) s (t .cells s .base) q → (c : ℕ) → 1 ≤ next (t .cells) s c →
     (size′ : ℕ) → t .size ≤ size′ → ((d : ℕ) → t .cells (t .cells s .base + d) .parent ≡ s → q + d ≤ size′) →
     Sound P (record { cells = relocate (t .cells) s q; size = size′ })

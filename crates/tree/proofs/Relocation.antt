@@ -14,12 +14,14 @@ use Rattle.rules.specs.Insertion.{to, renamed, moved}
 use Rattle.tree.specs.Soundness.{Step, rowAt, Tree}
 use Rattle.tree.specs.Moved.{Fit}
 use Rattle.tree.proofs.Steps.{step-next, step?}
-use Rattle.tree.proofs.Trees.{zero-parent, based-pos, live, step-used, no-loop}
+use Rattle.tree.proofs.Trees.{zero-parent, based-pos, based-used, step-used, no-loop}
 
 module _ {P : Profile} {T : Cells} {size : ℕ} (w : Tree P T size) {s b q : ℕ} (m : Fit T s b q) where
+  -- The table afterwards.
   abbrev pub M : Cells
   M = moved T s b q
 
+  -- Where a cell then is.
   abbrev pub ρ : ℕ → ℕ
   ρ = to T s b q
 
@@ -31,7 +33,7 @@ module _ {P : Profile} {T : Cells} {size : ℕ} (w : Tree P T size) {s b q : ℕ
   abbrev pub Kept : ℕ → Type 0
   Kept u = T (u - q + b) .parent ≢ s
 
-  pub s-based : 1 ≤ T s .base
+  s-based : 1 ≤ T s .base
   s-based = rw (m .held) (m .old)
 
   pub s-pos : 1 ≤ s
@@ -75,8 +77,8 @@ module _ {P : Profile} {T : Cells} {size : ℕ} (w : Tree P T size) {s b q : ℕ
   pub low-kept : (u : ℕ) → u ≤ 1 → Kept u
   low-kept u h e = omega (arith, place-clear u e)
 
-  pub based-kept : (u : ℕ) → 1 ≤ T u .base → Kept u
-  based-kept u h = ⊎-elim (λ e. low-kept u (omega arith)) (used-kept u) (live w u h)
+  based-kept : (u : ℕ) → 1 ≤ T u .base → Kept u
+  based-kept u h = ⊎-elim (λ e. low-kept u (omega arith)) (used-kept u) (based-used w u h)
 
   pub parent-kept : (t : ℕ) → Kept (T t .parent)
   parent-kept t = ⊎-elim (λ e. rw e (low-kept 0 (omega arith))) (λ h. based-kept (T t .parent) (w .sits t h .step .based)) (some? (T t .parent))
@@ -116,8 +118,8 @@ module _ {P : Profile} {T : Cells} {size : ℕ} (w : Tree P T size) {s b q : ℕ
       go (inr d) (inl e) = inr (left-free u e)
       go (inr d) (inr f) = inl (u, d, to-other u f)
 
-  pub to-inj : (x y : ℕ) → Kept x → Kept y → ρ x ≡ ρ y → x ≡ y
-  to-inj x y gx gy e = go (same? (T x .parent) s) (same? (T y .parent) s)
+  pub to-same : (x y : ℕ) → Kept x → Kept y → ρ x ≡ ρ y → x ≡ y
+  to-same x y gx gy e = go (same? (T x .parent) s) (same? (T y .parent) s)
     where
       go : (T x .parent ≡ s) ⊎ (T x .parent ≢ s) → (T y .parent ≡ s) ⊎ (T y .parent ≢ s) → x ≡ y
       go (inl f) (inl g) = omega (arith, sym (to-child x f) ∙ e ∙ to-child y g, child-far x f, child-far y g)
@@ -127,7 +129,7 @@ module _ {P : Profile} {T : Cells} {size : ℕ} (w : Tree P T size) {s b q : ℕ
 
   -- Only s is afterwards where s is.
   pub to-s : (t : ℕ) → Kept t → ρ t ≡ s → t ≡ s
-  to-s t g e = to-inj t s g (based-kept s s-based) (e ∙ sym s-stays)
+  to-s t g e = to-same t s g (based-kept s s-based) (e ∙ sym s-stays)
 
   pub to-own : (t : ℕ) → Kept t → eqb (ρ t) s ≡ eqb t s
   to-own t g = ⊎-elim (λ (e : t ≡ s). rw (e, s-stays)) (λ d. rw (ne-eqb t s d) (ne-eqb _ _ (λ e. d (to-s t g e)))) (same? t s)
@@ -173,7 +175,7 @@ module _ {P : Profile} {T : Cells} {size : ℕ} (w : Tree P T size) {s b q : ℕ
       go (inr e) = absurd (omega (arith, rw e at (p .back), to-pos x (based-pos w x hx)))
       go (inl (t, gt, e)) =
           let eu : ρ (T t .parent) ≡ ρ x = rw (← e, moved-at t gt) at (p .back) in
-          let back = to-inj (T t .parent) x (parent-kept t) g eu in
+          let back = to-same (T t .parent) x (parent-kept t) g eu in
           (t, record { based = hx; at = omega (arith, shift x t back, e, rw ex at (p .at)); back = back }, e)
 
   pub next-moved : (x c : ℕ) → Kept x → next M (ρ x) c ≡ ρ (next T x c)
@@ -189,7 +191,7 @@ module _ {P : Profile} {T : Cells} {size : ℕ} (w : Tree P T size) {s b q : ℕ
   next-kept : (x c : ℕ) → Kept (next T x c)
   next-kept x c = ⊎-elim (λ p. used-kept (next T x c) (step-used w p)) (λ e. rw e (low-kept 0 (omega arith))) (step? T x c)
 
-  pub node-kept : (path : List ℕ) → Kept (node T path)
+  node-kept : (path : List ℕ) → Kept (node T path)
   unfolding node
   node-kept [] = low-kept 1 (omega arith)
   node-kept (c ∷ path) = next-kept (node T path) c

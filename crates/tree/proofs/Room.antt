@@ -1,4 +1,4 @@
--- Each placement in the course of an insertion fits exactly if the size it comes to is not past the last cell. Assumes nothing.
+-- All placements in the course of an insertion fit exactly if the size it comes to is not past the last cell. Assumes nothing.
 use mathlib.Core.Path.{_≡_, sym, ap}
 use mathlib.Core.Logic.{⊎-elim}
 use mathlib.Core.Bool.{Bool, _&&_, _||_}

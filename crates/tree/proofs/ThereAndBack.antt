@@ -83,7 +83,7 @@ module _ {P : Profile} {T : Cells} {size : ℕ} (w : Tree P T size) {s b q : ℕ
       let f : M w m u .parent ≡ s = rw (place-from w m u e) at (child-after (u - q + b) e) in
       left-free tree-then fit-back u f ∙ sym (w .blank u (λ v. omega (arith, m .new)) z)
 
-  pub moved-back : moved (moved T s b q) s q b ≡ T
+  moved-back : moved (moved T s b q) s q b ≡ T
   moved-back = fun-ext (λ u. ⊎-elim (place-same u) (kept-same u) (same? (T (u - q + b) .parent) s))
 
 pub relocate-back : {P : Profile} {T : Cells} {size : ℕ} → Tree P T size → (s q : ℕ) → Fit T s (T s .base) q →

@@ -20,8 +20,8 @@ use Rattle.rules.proofs.Choices.{branch, fails, join, otherwise}
 use Rattle.rules.proofs.Ranges.{inside}
 use Rattle.tree.specs.Soundness.{Held, aLeaf, anInner, Fruit, Tree, Deep}
 use Rattle.tree.specs.Renders.{Renders}
-use Rattle.tree.proofs.UsedCells.{live-used, other-parent, unused-other, unused-parent}
-use Rattle.tree.proofs.Trees.{past-unused, used-pos, live, no-loop, past-free}
+use Rattle.tree.proofs.UsedCells.{is-used, other-parent, unused-other, unused-parent}
+use Rattle.tree.proofs.Trees.{past-unused, used-pos, based-used, no-loop, past-free}
 use Rattle.tree.proofs.Elements.{check-root, check-link, check-past, check-at}
 use Rattle.tree.proofs.Climbs.{all-within, root-home, path-home, home-path}
 use Rattle.tree.proofs.ReadTests.{is-holds, free-element, lengths-are, Bounded, Vacant, header, Ruled}
@@ -81,7 +81,7 @@ module _ {K : Kind} {P : Profile} {base check : List ℤ} where
 
       live-parent : usedAt base check (plusAt check i) ≡ true
       live-parent = rw (← used-parent bounded i u, same-used bounded (T i .parent))
-          (live-used T (T i .parent) (live tree (T i .parent) (tree .sits i u .step .based)))
+          (is-used T (T i .parent) (based-used tree (T i .parent) (tree .sits i u .step .based)))
 
       parent-apart : not (eqb (plusAt check i) i) ≡ true
       parent-apart = rw (← used-parent bounded i u, ne-eqb (T i .parent) i (no-loop tree i (used-pos tree i u)))

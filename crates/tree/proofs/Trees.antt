@@ -68,11 +68,11 @@ module _ {P : Profile} {T : Cells} {size : ℕ} (w : Tree P T size) where
   based-pos = base-cell T (w .nowhere)
 
   -- A cell that holds something is the root or is used.
-  pub held-used : (t : ℕ) → t ≢ 1 → T t ≢ free → 1 ≤ T t .parent
+  held-used : (t : ℕ) → t ≢ 1 → T t ≢ free → 1 ≤ T t .parent
   held-used t d f = ⊎-elim (λ z. absurd (f (w .blank t d z))) (λ h. h) (some? (T t .parent))
 
-  pub live : (s : ℕ) → 1 ≤ T s .base → (s ≡ 1) ⊎ (1 ≤ T s .parent)
-  live s h = ⊎-elim inl (λ d. inr (held-used s d (λ e. omega (arith, ap (λ x. x .base) e)))) (same? s 1)
+  pub based-used : (s : ℕ) → 1 ≤ T s .base → (s ≡ 1) ⊎ (1 ≤ T s .parent)
+  based-used s h = ⊎-elim inl (λ d. inr (held-used s d (λ e. omega (arith, ap (λ x. x .base) e)))) (same? s 1)
 
   pub row-used : (t : ℕ) → 1 ≤ T t .row → 1 ≤ T t .parent
   row-used t h = held-used t (λ e. omega (arith, w .root-row, ap (λ (x : ℕ). T x .row) e)) (λ e. omega (arith, ap (λ x. x .row) e))
@@ -82,7 +82,7 @@ module _ {P : Profile} {T : Cells} {size : ℕ} (w : Tree P T size) where
 
   -- An inner cell has no row.
   pub based-row : (s : ℕ) → 1 ≤ T s .base → T s .row ≡ 0
-  based-row s h = ⊎-elim (λ e. rw e (w .root-row)) (λ u. held-inner (w .sits s u .held) h) (live s h)
+  based-row s h = ⊎-elim (λ e. rw e (w .root-row)) (λ u. held-inner (w .sits s u .held) h) (based-used s h)
 
   -- ---- steps
 
@@ -130,7 +130,7 @@ module _ {P : Profile} {T : Cells} {size : ℕ} (w : Tree P T size) where
   -- An inner cell has a path, the root's being the empty one.
   pub path-of : (s : ℕ) → 1 ≤ T s .base → (path : List ℕ) × (node T path ≡ s)
   unfolding node
-  path-of s h = ⊎-elim (λ e. ([], sym e)) (w .reach s) (live s h)
+  path-of s h = ⊎-elim (λ e. ([], sym e)) (w .reach s) (based-used s h)
 
   -- Every used cell has a path.
   pub used-path : (t : ℕ) → used T t ≡ true → (path : List ℕ) × (node T path ≡ t)

@@ -13,9 +13,9 @@ module _ (T : Cells) (i : ℕ) where
   unfolding used
   parent-used h = rw (lt-ltb 0 (T i .parent) h, or-true)
 
-  pub live-used : (i ≡ 1) ⊎ (1 ≤ T i .parent) → used T i ≡ true
+  pub is-used : (i ≡ 1) ⊎ (1 ≤ T i .parent) → used T i ≡ true
   unfolding used
-  live-used = ⊎-elim (λ e. rw (eq-eqb i 1 e)) parent-used
+  is-used = ⊎-elim (λ e. rw (eq-eqb i 1 e)) parent-used
 
   pub parentless-unused : i ≢ 1 → T i .parent ≡ 0 → used T i ≡ false
   unfolding used

@@ -8,7 +8,7 @@ use Rattle.rules.specs.WhatTheIndexDoes.{Profile, isIdentifier, isRow}
 use Rattle.rules.specs.Table.{Table, lookup}
 use Rattle.rules.specs.Insertion.{Course, inserted}
 
--- Each placement in the course fits exactly if the size that it comes to is not past the last cell.
+-- All placements in the course fit exactly if the size that it comes to is not past the last cell.
 abbrev pub Honest : ℕ → Course → Type 0
 Honest last course = course .fitted ≡ leb (course .table .size) last
 

@@ -1,5 +1,5 @@
--- Soundness of an abstract table, in the form that edits keep: a tree below the root, in which each inner cell has a child and
--- each leaf lies at an identifier's depth. `SevenRules` shows that it is what rules 1 to 7 say of the two arrays.
+-- Soundness of an abstract table, in the form that edits keep: a tree below the root, in which each other inner cell has a child
+-- and each leaf lies at an identifier's depth. `SevenRules` shows that it is what rules 1 to 7 say of the two arrays.
 use mathlib.Core.Path.{_≡_}
 use mathlib.Core.Logic.{_≢_}
 use mathlib.Core.Bool.{true}
@@ -24,7 +24,7 @@ pub data Held (c : ℕ) (x : Content) : Type 0 where
 abbrev pub rowAt : Cells → List ℕ → ℕ
 rowAt T path = T (node T path) .row
 
--- Every inner cell but x and the root has a child. 0 is no cell, so that `Fruit T 0` speaks of all of them.
+-- Every inner cell but x and the root has a child. `Fruit T 0` excepts the root alone, for 0 is no cell.
 abbrev pub Fruit : Cells → ℕ → Type 0
 Fruit T x = (u : ℕ) → u ≢ x → 1 ≤ T u .parent → 1 ≤ T u .base → (c : ℕ) × (1 ≤ next T u c)
 

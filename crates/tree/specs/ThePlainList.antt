@@ -55,7 +55,7 @@ pub record Reply : Type 0 where
   pub list : List Entry
 
 module _ (P : Profile) (news : Told) (es : List Entry) where
-  -- A refusal changes nothing.
+  -- An answer that leaves the list as it is.
   abbrev pub kept : Answer → Reply
   kept a = record { answer = a; list = es }
 
