@@ -13,10 +13,10 @@ use Rattle.rules.specs.Ranges.{within}
 use Rattle.rules.specs.WhatTheIndexDoes.{END, Profile, RoundTrip, coded, isIdentifier, labels}
 use Rattle.rules.specs.Table.{Cells, Table, next, walk, node, lookup}
 use Rattle.rules.proofs.Choices.{both}
-use Rattle.rules.proofs.Ranges.{inside}
+use Rattle.rules.proofs.Ranges.{inside, within-is}
 use Rattle.tree.specs.Soundness.{rowAt, Tree, Sound}
 use Rattle.tree.proofs.Steps.{next-step, lookup-row, last-step}
-use Rattle.tree.proofs.Trees.{held-leaf, held-code, based-pos, row-pos, step-low, step-high, step-held}
+use Rattle.tree.proofs.Trees.{held-leaf, held-code, based-pos, row-pos, step-low, step-high, step-held, walk-pos}
 
 -- ---- labels and identifiers
 
@@ -37,10 +37,8 @@ module _ (P : Profile) (key : List ℕ) where
   identifier-coded e = both (within 1 (P .limit) (length key)) (coded P key) e .1
 
   pub identifier-short : isIdentifier P key ≡ true → (1 ≤ length key) × (length key ≤ P .limit)
-  unfolding isIdentifier within
-  identifier-short e =
-      let (low, high) = both (leb 1 (length key)) (leb (length key) (P .limit)) (both _ (coded P key) e .0) in
-      (leb-true _ _ low, leb-true _ _ high)
+  unfolding isIdentifier
+  identifier-short e = within-is 1 (P .limit) (length key) (both _ (coded P key) e .0)
 
   is-identifier : coded P key ≡ true → 1 ≤ length key → length key ≤ P .limit → isIdentifier P key ≡ true
   unfolding isIdentifier
@@ -69,18 +67,12 @@ module _ {P : Profile} (r : RoundTrip P) where
 -- ---- live identifiers
 
 module _ {P : Profile} {T : Cells} {size : ℕ} (w : Tree P T size) where
-  -- A walk that leads to a cell begins at one.
-  pub walk-used : (s : ℕ) (cs : List ℕ) → 1 ≤ walk T s cs → 1 ≤ s
-  unfolding walk
-  walk-used s [] h = h
-  walk-used s (c ∷ cs) h = based-pos w s (next-step T (walk-used (next T s c) cs h) .based)
-
   walk-coded : (s : ℕ) (key : List ℕ) → 1 ≤ walk T s (labels P key) → coded P key ≡ true
   unfolding walk labels coded
   walk-coded s [] h = refl
   walk-coded s (b ∷ bs) h =
       let t = next T s (P .code b) in
-      rw (le-leb 1 (P .code b) (step-low w (next-step T (walk-used t (labels P bs) h)))) (walk-coded t bs h)
+      rw (le-leb 1 (P .code b) (step-low w (next-step T (walk-pos w t (labels P bs) h)))) (walk-coded t bs h)
 
   live-coded : (key : List ℕ) → 1 ≤ lookup P T key → coded P key ≡ true
   unfolding lookup

@@ -17,8 +17,8 @@ use Rattle.tree.specs.Soundness.{Step, Held, aLeaf, anInner, Tree, Sound
 use Rattle.tree.specs.Listed.{Before, InOrder}
 use Rattle.tree.specs.Members.{Among, Once}
 use Rattle.tree.proofs.Steps.{next-step}
-use Rattle.tree.proofs.Trees.{row-low, row-pos, based-row, step-low, step-high, step-held}
-use Rattle.tree.proofs.Identifiers.{spelt-codes, identifier-short, walk-used, live-identifier}
+use Rattle.tree.proofs.Trees.{row-low, row-pos, based-row, step-low, step-high, step-held, walk-pos}
+use Rattle.tree.proofs.Identifiers.{spelt-codes, identifier-short, live-identifier}
 
 -- ---- lists of entries
 
@@ -217,7 +217,7 @@ module _ (P : Profile) (T : Cells) where
     visited-live zero s key more l h = absurd (omega arith)
     visited-live (suc depth) s key [] l h = visited-on depth s END key _ (row-pos w _ h) (rw append-nil (visited-leaf depth (next T s END) key h))
     visited-live (suc depth) s key (b ∷ bs) l h =
-        let u = walk-used w (next T s (P .code b)) (labels P bs) (row-pos w _ h) in
+        let u = walk-pos w (next T s (P .code b)) (labels P bs) (row-pos w _ h) in
         let a = visited-live depth (next T s (P .code b)) (key ++ (b ∷ [])) bs (omega arith) h in
         visited-on depth s (P .code b) key _ u (rw (spelt-code key b (step-low w (next-step T u)), ← append-assoc key (b ∷ []) bs) a)
 

@@ -15,7 +15,7 @@ use Rattle.rules.specs.Table.{Content, Cells, free, used, next, walk, node}
 use Rattle.rules.proofs.Choices.{both}
 use Rattle.tree.specs.Soundness.{Step, Held, aLeaf, anInner, Fruit, Bare, Tree}
 use Rattle.tree.proofs.Steps.{parent-cell, base-cell, step-next, next-step, last-step, walk-node}
-use Rattle.tree.proofs.UsedCells.{parentless-unused, by-use}
+use Rattle.tree.proofs.UsedCells.{is-used, parentless-unused, by-use}
 
 -- ---- what a cell holds
 
@@ -120,32 +120,31 @@ module _ {P : Profile} {T : Cells} {size : ℕ} (w : Tree P T size) where
       let k : c ≡ c′ = omega (arith, p .at, p′ .at, ap (λ x. T (node T x) .base) f) in
       ap₂ _∷_ k f
 
-  -- No labels lead from a cell back to it.
-  ring : (cs path : List ℕ) {t : ℕ} → node T path ≡ t → 1 ≤ t → walk T t cs ≡ t → cs ≡ []
-  ring [] path e h k = refl
-  ring (c ∷ cs) path e h k =
-      let f : node T (reverseAux (c ∷ cs) path) ≡ _ = sym (walk-node T (c ∷ cs) path) ∙ ap (λ (x : ℕ). walk T x (c ∷ cs)) e ∙ k in
-      absurd (omega (arith, length-reverseAux (c ∷ cs) path, ap (λ (r : List ℕ). length r) (one-path (reverseAux (c ∷ cs) path) path f e h)))
-
-  -- An inner cell has a path, the root's being the empty one.
-  pub path-of : (s : ℕ) → 1 ≤ T s .base → (path : List ℕ) × (node T path ≡ s)
-  unfolding node
-  path-of s h = ⊎-elim (λ e. ([], sym e)) (w .reach s) (based-used s h)
-
-  -- Every used cell has a path.
+  -- Every used cell has one.
   pub used-path : (t : ℕ) → used T t ≡ true → (path : List ℕ) × (node T path ≡ t)
   unfolding node
   used-path t u = by-use T t (λ e. ([], sym e)) (λ d. w .reach t) (λ f. absurd (true≢false (sym u ∙ f)))
 
-  -- A walk that comes to a cell begins at an inner cell.
-  begins : (cs : List ℕ) (c t : ℕ) → 1 ≤ walk T t (c ∷ cs) → 1 ≤ T t .base
-  unfolding walk
-  begins [] c t h = next-step T h .based
-  begins (d ∷ cs) c t h = next-step T {s = t} {c = c} (based-pos (next T t c) (begins cs d (next T t c) h)) .based
+  pub path-of : (s : ℕ) → 1 ≤ T s .base → (path : List ℕ) × (node T path ≡ s)
+  path-of s h = used-path s (is-used T s (based-used s h))
 
+  -- A walk that leads to a cell begins at one, and with a label at an inner one.
+  pub walk-pos : (s : ℕ) (cs : List ℕ) → 1 ≤ walk T s cs → 1 ≤ s
+  unfolding walk
+  walk-pos s [] h = h
+  walk-pos s (c ∷ cs) h = based-pos s (next-step T (walk-pos (next T s c) cs h) .based)
+
+  walk-based : (s c : ℕ) (cs : List ℕ) → 1 ≤ walk T s (c ∷ cs) → 1 ≤ T s .base
+  unfolding walk
+  walk-based s c cs h = next-step T {s = s} {c = c} (walk-pos (next T s c) cs h) .based
+
+  -- No labels lead from a cell back to it.
   pub no-ring : (cs : List ℕ) (t : ℕ) → 1 ≤ t → walk T t cs ≡ t → cs ≡ []
   no-ring [] t h k = refl
-  no-ring (c ∷ cs) t h k = let (path, e) = path-of t (begins cs c t (rw k h)) in ring (c ∷ cs) path e h k
+  no-ring (c ∷ cs) t h k =
+      let (path, e) = path-of t (walk-based t c cs (rw k h)) in
+      let f : node T (reverseAux (c ∷ cs) path) ≡ t = sym (walk-node T (c ∷ cs) path) ∙ ap (λ (x : ℕ). walk T x (c ∷ cs)) e ∙ k in
+      absurd (omega (arith, length-reverseAux (c ∷ cs) path, ap (λ (r : List ℕ). length r) (one-path (reverseAux (c ∷ cs) path) path f e h)))
 
   pub no-loop : (t : ℕ) → 1 ≤ t → T t .parent ≢ t
   unfolding walk
