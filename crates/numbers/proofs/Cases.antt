@@ -14,13 +14,14 @@ lt-or-ge a b = go (decLe b a)
     go (yes h) = inr h
     go (no d) = inl (omega arith)
 
+-- What is decided is so or not.
+so-or-not : {A : Type 0} → Dec A → A ⊎ (A → ⊥)
+so-or-not (yes a) = inl a
+so-or-not (no d) = inr d
+
 -- Two numbers are the same or not.
 pub same? : (m n : ℕ) → (m ≡ n) ⊎ (m ≢ n)
-same? m n = go (ℕ-discrete m n)
-  where
-    go : Dec (m ≡ n) → (m ≡ n) ⊎ (m ≢ n)
-    go (yes e) = inl e
-    go (no d) = inr d
+same? m n = so-or-not (ℕ-discrete m n)
 
 -- A number is 0 or not.
 pub some? : (n : ℕ) → (n ≡ 0) ⊎ (1 ≤ n)
@@ -29,8 +30,4 @@ some? (suc n) = inr (omega arith)
 
 -- Two lists of numbers are the same or not.
 pub same-list? : (r p : List ℕ) → (r ≡ p) ⊎ (r ≢ p)
-same-list? r p = go (List-discrete ℕ-discrete r p)
-  where
-    go : Dec (r ≡ p) → (r ≡ p) ⊎ (r ≢ p)
-    go (yes e) = inl e
-    go (no d) = inr d
+same-list? r p = so-or-not (List-discrete ℕ-discrete r p)

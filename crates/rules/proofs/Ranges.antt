@@ -69,11 +69,6 @@ module _ (test : ℕ → Bool) where
   first-least (suc n) q m h e = branch (λ r. r ≤ m) (test q) (λ t. h)
       (λ f. ⊎-elim (λ v. absurd (true≢false (sym e ∙ ap test (sym v) ∙ f))) (λ l. first-least n (suc q) m l e) (eq-or-lt-of-le h))
 
-  pub first-high : (n q : ℕ) → firstFrom test n q ≤ q + n
-  unfolding firstFrom
-  first-high zero q = omega arith
-  first-high (suc n) q = branch (λ r. r ≤ q + suc n) (test q) (λ t. omega arith) (λ f. omega (arith, first-high n (suc q)))
-
   pub first-passes : (n q : ℕ) → test (q + n) ≡ true → test (firstFrom test n q) ≡ true
   unfolding firstFrom
   first-passes zero q e = rw add-zero at e

@@ -21,7 +21,7 @@ use Rattle.rules.specs.Rendering.{readTable}
 use Rattle.rules.proofs.Choices.{branch₂}
 use Rattle.tree.specs.Soundness.{Sound}
 use Rattle.tree.specs.AfterAnEdit.{Now}
-use Rattle.tree.specs.ThePlainList.{rowIn, without, told, heard, replied, history, Agrees, Together}
+use Rattle.tree.specs.ThePlainList.{rowIn, without, told, heard, replied, history, Agrees, Together, Followed}
 use Rattle.tree.proofs.Insertion.{inserted-now, inserted-honest}
 use Rattle.tree.proofs.Compaction.{same-lookup, compacted-same}
 use Rattle.tree.proofs.Deletion.{deleted-now, deleted-less}
@@ -93,15 +93,13 @@ module _ {P : Profile} (trip : RoundTrip P) (last : ℕ) where
 
   -- ---- any sequence
 
-  pub history-agrees : (cs : List Command) {t : Table} (es : List Entry) → Agrees P last t es →
-      let h = history P last t es cs in
-      (h .answers ≡ h .replies) × Agrees P last (h .table) (h .list)
+  pub history-agrees : (cs : List Command) {t : Table} (es : List Entry) → Agrees P last t es → Followed P last (history P last t es cs)
   unfolding history
-  history-agrees [] es a = (refl, a)
+  history-agrees [] es a = record { answers = refl; left = a }
   history-agrees (c ∷ cs) {t} es a =
       let s = answered-together es a c in
-      let (e, on) = history-agrees cs (replied P (told P last t c) es c .list) (s .left) in
-      (ap₂ _∷_ (s .answer) e, on)
+      let on = history-agrees cs (replied P (told P last t c) es c .list) (s .left) in
+      record { answers = ap₂ _∷_ (s .answer) (on .answers); left = on .left }
 
   -- Every sound table has its plain list: its own entries.
   pub entries-agree : {t : Table} → Sound P t → t .size ≤ last → Agrees P last t (entries P (t .cells))
@@ -114,20 +112,15 @@ module _ {P : Profile} (trip : RoundTrip P) (last : ℕ) where
   }
 
   -- From any sound table that the arrays hold, and any commands: the answers are the list's, and so is every lookup afterwards.
-  pub any-history : {t : Table} → Sound P t → t .size ≤ last → (cs : List Command) →
-      let h = history P last t (entries P (t .cells)) cs in
-      (h .answers ≡ h .replies) × Agrees P last (h .table) (h .list)
+  pub any-history : {t : Table} → Sound P t → t .size ≤ last → (cs : List Command) → Followed P last (history P last t (entries P (t .cells)) cs)
   any-history {t} w fits cs = history-agrees cs (entries P (t .cells)) (entries-agree w fits)
 
   -- From nothing: the empty table and the empty list.
-  pub built-history : 1 ≤ last → (cs : List Command) →
-      let h = history P last empty [] cs in
-      (h .answers ≡ h .replies) × Agrees P last (h .table) (h .list)
+  pub built-history : 1 ≤ last → (cs : List Command) → Followed P last (history P last empty [] cs)
   unfolding empty rowIn
   built-history room cs = history-agrees cs [] (record { sound = empty-sound P; fits = room; rows = λ key. empty-lookup P key })
 
 -- From any two arrays that the audit passes.
 pub audited-history : {P : Profile} → RoundTrip P → (base check : List ℤ) → sound P base check ≡ true → (cs : List Command) →
-    let h = history P (lastCell base) (readTable base check) (entries P (readTable base check .cells)) cs in
-    (h .answers ≡ h .replies) × Agrees P (lastCell base) (h .table) (h .list)
+    Followed P (lastCell base) (history P (lastCell base) (readTable base check) (entries P (readTable base check .cells)) cs)
 audited-history {P} trip base check e cs = let r = rules-render P base check e in any-history trip (lastCell base) (r .table) (r .fits) cs

@@ -45,7 +45,7 @@ module _ (P : Profile) (last : ℕ) (t : Table) where
     abbrev Why : Outcome → Type 0
     Why o = o .answer ≡ NoRoom → Unplaced P last t key n
 
-    other : {a : Answer} → number a < 7 → a ≡ NoRoom → Unplaced P last t key n
+    other : {a : Answer} → number a < number NoRoom → a ≡ NoRoom → Unplaced P last t key n
     other h e = absurd (omega (arith, ap number e))
 
     why : Why (answered P last t true (insert key n))

@@ -19,7 +19,7 @@ use Rattle.tree.proofs.Steps.{next-step}
 use Rattle.tree.proofs.Trees.{step-held, held-onward}
 use Rattle.tree.proofs.OneCell.{update-at}
 use Rattle.tree.proofs.Branches.{Word}
-use Rattle.tree.proofs.Collisions.{base′, codes, collide-base}
+use Rattle.tree.proofs.Collisions.{base′, codes, collided, collide-base}
 
 module _ (last : ℕ) where
   -- One placement more, whose greatest cell the size includes.
@@ -51,27 +51,24 @@ module _ (last : ℕ) where
   module _ {P : Profile} {T : Cells} {size : ℕ} (w : Tree P T size) (h : size ≤ last) (n : ℕ) where
     extend-honest : (s c : ℕ) (cs : List ℕ) → 1 ≤ T s .base → Honest last (extend P last T size s c cs n)
     unfolding extend fits greatestOf
-    extend-honest s c cs based = branch (λ (r : Course). Honest last r) (used T (T s .base + c) || ltb last (T s .base + c))
+    extend-honest s c cs based = branch (Honest last) (used T (T s .base + c) || ltb last (T s .base + c))
         (λ e. placement-honest far (on .table .size) (on .fitted) (omega (arith, grow-wide cs c R (max size far) s n))
         (λ g. grow-honest cs c R (max size far) s n (omega arith) (omega (arith, collide-base w s c based))))
         (λ e. grow-honest cs c T size s n h (ltb-false last (T s .base + c) (neither (used T (T s .base + c)) (ltb last (T s .base + c)) e .1)))
       where
-        q : ℕ
-        q = base′ w s c based
-
         far : ℕ
-        far = q + greatestOf (c ∷ codes w s c based)
+        far = base′ w s c based + greatestOf (c ∷ codes w s c based)
 
         R : Cells
-        R = relocate T s q
+        R = relocate T s (base′ w s c based)
 
         on : Course
-        on = grow last R (max size far) s c cs n
+        on = collided w s c based last cs n
 
     pub insert-honest : (cs : List ℕ) (c s : ℕ) → Word P c cs → 1 ≤ T s .base → Honest last (insertFrom P last T size s (c ∷ cs) n)
     unfolding insertFrom
-    insert-honest [] c s wd based = branch (λ (r : Course). Honest last r) (eqb (next T s c) 0)
+    insert-honest [] c s wd based = branch (Honest last) (eqb (next T s c) 0)
         (λ e. extend-honest s c [] based) (λ e. sym (le-leb size last h))
-    insert-honest (d ∷ cs) c s wd based = branch (λ (r : Course). Honest last r) (eqb (next T s c) 0)
+    insert-honest (d ∷ cs) c s wd based = branch (Honest last) (eqb (next T s c) 0)
         (λ e. extend-honest s c (d ∷ cs) based)
         (λ e. insert-honest cs d (next T s c) (wd .2) (held-onward (step-held w (next-step T (not-zero (next T s c) e))) (wd .0)))

@@ -15,7 +15,7 @@ pub record Meant (P : Profile) (T : Cells) (path : List ℕ) (n : ℕ) (R : Tabl
   pub else : (r : List ℕ) → r ≢ path → rowAt (R .cells) r ≡ rowAt T r
   pub fruit : Fruit (R .cells) 0
 
--- The table t′ is sound, has the row n at key (0: none), and at any other identifier what t has.
+-- The table t′ is sound, has the row n at key (0: none), and at any other string what t has.
 pub record Now (P : Profile) (t : Table) (key : List ℕ) (n : ℕ) (t′ : Table) : Type 0 where
   pub sound : Sound P t′
   pub here : lookup P (t′ .cells) key ≡ n

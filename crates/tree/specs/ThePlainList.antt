@@ -37,7 +37,7 @@ without (e ∷ es) key = cond (sameKey (e .key) key) (without es key) (e ∷ wit
 
 -- ---- one command
 
--- What the list is told: whether each placement fits, and how many children, or steps, move.
+-- What the list is told: whether all placements fit, and how many children, or steps, move.
 pub record Told : Type 0 where
   pub fitted : Bool
   pub count : ℕ
@@ -106,7 +106,12 @@ pub record Agrees (P : Profile) (last : ℕ) (t : Table) (es : List Entry) : Typ
   pub fits : t .size ≤ last
   pub rows : (key : List ℕ) → lookup P (t .cells) key ≡ rowIn es key
 
--- The same answer, and what is left agrees.
+-- One command: the same answer, and what is left agrees.
 pub record Together (P : Profile) (last : ℕ) (o : Outcome) (r : Reply) : Type 0 where
   pub answer : o .answer ≡ r .answer
   pub left : Agrees P last (o .table) (r .list)
+
+-- A history: the list gave the table's answers throughout, and agrees with it at the end.
+pub record Followed (P : Profile) (last : ℕ) (h : History) : Type 0 where
+  pub answers : h .answers ≡ h .replies
+  pub left : Agrees P last (h .table) (h .list)
