@@ -1,14 +1,17 @@
 -- The machine's signed tests, casts and negation, said of `plusOf` and `minusOf`. Assumes nothing.
 use mathlib.Core.Path.{_≡_, refl, sym, ap, subst, _∙_}
+use mathlib.Core.Logic.{_≢_, ⊎-elim}
 use mathlib.Core.Bool.{true, false}
 use Prim.Native.Nat.{ℕ, zero, suc, _≤_}
 use native.Mathlib.Omega.{arith}
 use lib.IntN.{ℤ, pos, negsuc, negℤ, natAbs, _-ℤ_, +ℤ-idl}
 use lib.Signed.{ltZ, leZ, nonNeg, natAbs-le}
-use lib.Dec.{T, leb·zero, leb·suc-zero}
+use lib.Dec.{T, eqb, leb·zero, leb·suc-zero}
+use borrow.Author.Tests.{eq-eqb, ne-eqb}
 use mir.Syntax.{w32, w64}
 use mir.Val.{Fits, SFits, toZ, ofZ}
 use mir.Facts.{toZ-ofZ, sfits-widen, toZ-pos}
+use Rattle.numbers.proofs.Cases.{same?}
 use Rattle.numbers.specs.Stored.{negative, plusOf, minusOf, greatestStored, Reads}
 
 -- ---- 0 or more
@@ -66,3 +69,22 @@ negative-is (suc n) = refl
 pub negative-fits : (n : ℕ) → n ≤ greatestStored → SFits w32 (negℤ (pos n))
 negative-fits zero h = record { sfits = omega arith }
 negative-fits (suc n) h = record { sfits = omega arith }
+
+pub positive-fits : (n : ℕ) → n ≤ greatestStored → SFits w32 (pos n)
+positive-fits n h = record { sfits = omega arith }
+
+-- ---- two stored numbers are compared by their bits
+
+plus-is : (x : ℤ) {n : ℕ} → 1 ≤ n → plusOf x ≡ n → x ≡ pos n
+plus-is (pos m) h e = ap pos e
+plus-is (negsuc m) h e = absurd (omega arith)
+
+module _ (x : ℤ) (n : ℕ) (fits : SFits w32 x) (low : 1 ≤ n) (high : n ≤ greatestStored) where
+  bits-differ : plusOf x ≢ n → ofZ w32 x ≢ ofZ w32 (pos n)
+  bits-differ d e = d (ap plusOf (sym (toZ-ofZ fits) ∙ ap (toZ w32) e ∙ toZ-ofZ (positive-fits n high)))
+
+  pub same-bits : eqb (ofZ w32 x) (ofZ w32 (pos n)) ≡ eqb (plusOf x) n
+  same-bits = ⊎-elim
+      (λ (e : plusOf x ≡ n). eq-eqb _ _ (ap (ofZ w32) (plus-is x low e)) ∙ sym (eq-eqb (plusOf x) n e))
+      (λ (d : plusOf x ≢ n). ne-eqb _ _ (bits-differ d) ∙ sym (ne-eqb (plusOf x) n d))
+      (same? (plusOf x) n)

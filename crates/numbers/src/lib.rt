@@ -2,6 +2,7 @@
 // gives 0 and a store does nothing, so that no caller argues about bounds.
 ghost use mathlib.Core.Path.{_≡_};
 ghost use Prim.Native.Nat.{_≤_};
+ghost use lib.Dec.{eqb};
 ghost use lib.ListN.{set};
 ghost use Rattle.numbers.specs.Stored.{positive, negative, plusOf, minusOf, plusAt, minusAt, greatestStored, Reads};
 
@@ -47,6 +48,18 @@ pub fn minus_at(s: &[i32], i: usize) -> usize
     ensures { λ r. ⌜ Reads (minusAt (now (s .entry)) i) r ⌝ }
 {
     if i < s.len() { minus(s[i]) } else { 0 }
+}
+
+// Whether the element i is n.
+pub fn is_at(s: &[i32], i: usize, n: usize) -> bool
+    requires { ⌜ (1 ≤ n) × (n ≤ greatestStored) ⌝ }
+    ensures { λ r. ⌜ r ≡ eqb (plusAt (now (s .entry)) i) n ⌝ }
+{
+    if i < s.len() {
+        s[i] == as_plus(n)
+    } else {
+        false
+    }
 }
 
 // Stores n as the element i; past the end nothing is stored.

@@ -1,11 +1,11 @@
 -- Choices by a test, and two tests together. Assumes nothing.
-use mathlib.Core.Path.{_≡_, refl, sym}
+use mathlib.Core.Path.{_≡_, refl, sym, _∙_}
 use mathlib.Core.Logic.{_≢_, _⊎_, inl, inr}
-use mathlib.Core.Bool.{Bool, true, false, cond, _&&_, _||_, true≢false}
+use mathlib.Core.Bool.{Bool, true, false, cond, not, _&&_, _||_, true≢false}
 use Prim.Native.Nat.{ℕ, _≤_}
 use native.Mathlib.Omega.{arith}
 use lib.Dec.{eqb}
-use borrow.Author.Tests.{eqb-false}
+use borrow.Author.Tests.{eqb-false, not-true, not-false}
 
 -- ---- a choice
 
@@ -25,6 +25,14 @@ branch₂ F false f g = g refl
 pub fails : (s : Bool) → (s ≡ true → ⊥) → s ≡ false
 fails true h = absurd (h refl)
 fails false h = refl
+
+-- After `if !r`, where r is what a test gave.
+module _ {s : Bool} (r : Bool) (is : r ≡ s) where
+  pub was-no : not r ≡ true → s ≡ false
+  was-no e = sym is ∙ not-true r e
+
+  pub was-yes : not r ≡ false → s ≡ true
+  was-yes e = sym is ∙ not-false r e
 
 -- A number that is tested not to be 0.
 pub not-zero : (n : ℕ) → eqb n 0 ≡ false → 1 ≤ n

@@ -1,9 +1,9 @@
 -- Laws of the tests over ranges, and of the first number that passes a test. Assumes nothing.
 use mathlib.Core.Path.{_≡_, refl, sym, ap, ap₂, _∙_}
-use mathlib.Core.Logic.{⊎-elim}
+use mathlib.Core.Logic.{_≢_, ⊎-elim}
 use mathlib.Core.Bool.{Bool, true, false, cond, true≢false, and-false, or-true}
 use Prim.Native.Nat.{ℕ, zero, suc, _+_, _≤_, _<_}
-use native.Mathlib.Nat.{add-zero, add-suc, suc-add, eq-or-lt-of-le, le-of-suc-le-suc}
+use native.Mathlib.Nat.{add-zero, add-suc, suc-add, eq-or-lt-of-le, le-antisymm, le-of-suc-le-suc}
 use native.Mathlib.Omega.{arith}
 use lib.Dec.{leb}
 use borrow.Author.Tests.{le-leb, lt-leb, leb-true}
@@ -81,3 +81,20 @@ module _ (test : ℕ → Bool) where
   first-same other zero q h = refl
   first-same other (suc n) q h =
       ap₂ (λ b r. cond b q r) (h q (omega arith)) (first-same other n (suc q) (λ m l. h m (omega arith)))
+
+  -- The first is the one at hand, where that passes.
+  pub first-here : (n q : ℕ) → test q ≡ true → firstFrom test n q ≡ q
+  unfolding firstFrom
+  first-here zero q e = refl
+  first-here (suc n) q e = rw e
+
+  -- Where it fails, the first is the first of those past it, however many failures are allowed.
+  pub first-skip : (n m q : ℕ) → test q ≡ false → test (q + n) ≡ true → test (suc q + m) ≡ true →
+      firstFrom test n q ≡ firstFrom test m (suc q)
+  first-skip n m q f p r =
+      let a = firstFrom test n q in
+      let passes : test a ≡ true = first-passes n q p in
+      let other : a ≢ q = (λ v. true≢false (sym passes ∙ ap test v ∙ f)) in
+      let low : q ≤ a = first-low n q in
+      let high : suc q ≤ firstFrom test m (suc q) = first-low m (suc q) in
+      le-antisymm (first-least n q _ (omega arith) (first-passes m (suc q) r)) (first-least m (suc q) a (omega arith) passes)

@@ -1,7 +1,7 @@
 -- The answers, as the table under 'A run' has them: each one's number and its value.
 use Prim.Native.Nat.{ℕ}
-use mathlib.Core.Bool.{Bool}
-use lib.Dec.{eqb}
+use mathlib.Core.Bool.{Bool, cond}
+use lib.Dec.{ltb, eqb}
 use Rattle.rules.specs.declared.Answer.{Answer}
 use Rattle.rules.specs.declared.Answer.the-variants.{Done, Found, Size, Key, Number, Damaged, Present, Absent, NoRoom, NoSpace, Line}
 
@@ -40,6 +40,10 @@ isDone a = eqb (number a) 0
 -- Done, with the row n.
 abbrev pub found : ℕ → Answer
 found n = Found (record { 0 = n })
+
+-- Done, with the row n; ABSENT where it is 0.
+abbrev pub foundOrAbsent : ℕ → Answer
+foundOrAbsent n = cond (ltb 0 n) (found n) Absent
 
 -- Refused, with the row n held.
 abbrev pub present : ℕ → Answer

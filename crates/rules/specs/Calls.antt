@@ -6,10 +6,10 @@ use mathlib.Core.List.{List}
 use lib.ListN.{length}
 use lib.Seq.{sets}
 use lib.IntN.{ℤ}
-use lib.Dec.{leb, ltb}
+use lib.Dec.{leb}
 use Rattle.rules.specs.declared.Answer.{Answer}
-use Rattle.rules.specs.declared.Answer.the-variants.{Done, Size, Key, Damaged, Absent, NoSpace}
-use Rattle.rules.specs.Answers.{isDone, found}
+use Rattle.rules.specs.declared.Answer.the-variants.{Done, Size, Key, Damaged, NoSpace}
+use Rattle.rules.specs.Answers.{isDone, foundOrAbsent}
 use Rattle.rules.specs.WhatTheIndexDoes.{Profile, isIdentifier, rightLengths, lastCell}
 use Rattle.rules.specs.ASoundTable.{freshBase, freshCheck}
 use Rattle.rules.specs.Finding.{rowFound}
@@ -50,9 +50,7 @@ module _ (P : Profile) (base check : List ℤ) where
   -- find: SIZE, KEY, then the walk; no audit.
   unfoldable pub findCall : List ℕ → Answer
   findCall key =
-      let row = rowFound base check P key in
-      let walked = cond (ltb 0 row) (found row) Absent in
-      let keyed = cond (isIdentifier P key) walked Key in
+      let keyed = cond (isIdentifier P key) (foundOrAbsent (rowFound base check P key)) Key in
       cond (rightLengths base check) keyed Size
 
 module _ (K : Kind) (P : Profile) (base check : List ℤ) where

@@ -12,6 +12,10 @@ pub record Reached : Type 0 where
   pub cell : ℕ
   pub met : ℕ
 
+-- Minus base[t], if t is a cell and it is in the range of rows; otherwise 0.
+unfoldable pub rowOf : List ℤ → ℕ → ℕ
+rowOf base t = cond (leb 1 t && isRow (minusAt base t)) (minusAt base t) 0
+
 module _ (base check : List ℤ) where
   -- Whether the walk goes on from s with the label c: base[s] is 1 or more, t = base[s] + c is not past the last cell, and
   -- check[t] = s. From 0, which is no cell, it does not.
@@ -38,8 +42,6 @@ module _ (base check : List ℤ) where
   unfoldable pub leafAt : Profile → List ℕ → ℕ
   leafAt P key = nextAt (walkAt 1 (map (P .code) key) .cell) END
 
-  -- The row found: minus base[t] after the end mark, if it is in the range of rows; otherwise 0.
+  -- The row found after the end mark, or 0.
   unfoldable pub rowFound : Profile → List ℕ → ℕ
-  rowFound P key =
-      let t = leafAt P key in
-      cond (leb 1 t && isRow (minusAt base t)) (minusAt base t) 0
+  rowFound P key = rowOf base (leafAt P key)

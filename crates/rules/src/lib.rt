@@ -1,7 +1,7 @@
 // Document 01's types: rows and cells, kept apart, the alphabet of label codes, and what a call answers.
 // What the document says of them stands in specs/, a file for each of its sections.
 ghost use mathlib.Core.Path.{_≡_};
-ghost use Rattle.rules.specs.WhatTheIndexDoes.{Code, characterOf};
+ghost use Rattle.rules.specs.WhatTheIndexDoes.{Code, characterOf, document01, rightLengths, isIdentifier, coded, isRow};
 ghost use Rattle.rules.specs.Answers.{number, value};
 
 // A row's number. It is no cell: nothing can be looked up in the arrays by it.
@@ -41,6 +41,59 @@ impl Alphabet {
             _ => 0,
         }
     }
+}
+
+// The greatest length of an identifier.
+pub const LIMIT: usize = 32;
+
+// Whether arrays of these lengths can hold a table: equal lengths, 2 to 65,536 elements.
+pub fn right_lengths(base: &[i32], check: &[i32]) -> bool
+    ensures { λ r. ⌜ r ≡ rightLengths (now (base .entry)) (now (check .entry)) ⌝ }
+{
+    if base.len() != check.len() {
+        return false;
+    }
+    if base.len() < 2 {
+        return false;
+    }
+    base.len() <= 65536
+}
+
+// Whether it is an identifier: 1 to 32 characters, each with a code.
+pub fn is_identifier(key: &[u8]) -> bool
+    ensures { λ r. ⌜ r ≡ isIdentifier document01 (now (key .entry)) ⌝ }
+{
+    if key.len() == 0 {
+        return false;
+    }
+    if LIMIT < key.len() {
+        return false;
+    }
+    is_coded(key)
+}
+
+// Whether each character has a code.
+fn is_coded(key: &[u8]) -> bool
+    ensures { λ r. ⌜ r ≡ coded document01 (now (key .entry)) ⌝ }
+{
+    let mut rest = key;
+    while 0 < rest.len() {
+        if Alphabet::code(rest[0]) == 0 {
+            return false;
+        }
+        rest = &rest[1..];
+    }
+    true
+}
+
+// Whether n is a row's number: 1 to 1,000,000.
+pub fn is_row(n: usize) -> bool
+    ensures { λ r. ⌜ r ≡ isRow n ⌝ }
+{
+    if n == 0 {
+        return false;
+    }
+    n <= 1000000
 }
 
 // What a call answers.

@@ -66,6 +66,11 @@ module _ {P : Profile} {T : Cells} {size : ℕ} (w : Tree P T size) where
 
 -- ---- climbs on two arrays
 
+pub root-home : (check : List ℤ) (k : ℕ) {t : ℕ} → t ≡ 1 → home check k t ≡ true
+unfolding home
+root-home check zero {t} e = eq-eqb t 1 e
+root-home check (suc k) {t} e = rw (eq-eqb t 1 e)
+
 module _ (base check : List ℤ) where
   abbrev T : Cells
   T = readCells base check
@@ -74,15 +79,10 @@ module _ (base check : List ℤ) where
   abbrev pub PathTo : ℕ → ℕ → Type 0
   PathTo k t = (path : List ℕ) × (node T path ≡ t) × (length path ≤ k)
 
-  pub root-home : (k : ℕ) {t : ℕ} → t ≡ 1 → home check k t ≡ true
-  unfolding home
-  root-home zero {t} e = eq-eqb t 1 e
-  root-home (suc k) {t} e = rw (eq-eqb t 1 e)
-
   module _ {P : Profile} {size : ℕ} (w : Tree P T size) where
     pub path-home : (path : List ℕ) {t : ℕ} → node T path ≡ t → 1 ≤ t → (k : ℕ) → length path ≤ k → home check k t ≡ true
     unfolding home node
-    path-home [] e h k l = root-home k (sym e)
+    path-home [] e h k l = root-home check k (sym e)
     path-home (c ∷ path) e h zero l = absurd (omega arith)
     path-home (c ∷ path) {t} e h (suc k) l =
         let p = last-step T c path e h in

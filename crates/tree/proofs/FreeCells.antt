@@ -50,9 +50,9 @@ module _ {base check : List ℤ} (b : Bounded base check) where
       let (f, h) = both (freeAt base check i) (holds base i 0) (unused-to b _ e i low high u) in
       (leb-true 1 (minusAt check i) f, holds-is base i 0 h)
 
-  third : rule3 base check ≡ true → (i : ℕ) → i ≤ sizeAt base → used T i ≡ false → minusAt check i ≡ nextFreeAt base check i
+  pub third-rule : rule3 base check ≡ true → (i : ℕ) → i ≤ sizeAt base → used T i ≡ false → minusAt check i ≡ nextFreeAt base check i
   unfolding rule3
-  third e i high u = let (first, more) = both (eqb (minusAt check 0) (nextFreeAt base check 0)) _ e in ⊎-elim
+  third-rule e i high u = let (first, more) = both (eqb (minusAt check 0) (nextFreeAt base check 0)) _ e in ⊎-elim
       (λ z. rw z (eqb-true _ _ first))
       (λ low. eqb-true _ _ (unused-to b _ more i low high u))
       (some? i)
@@ -82,7 +82,7 @@ module _ {base check : List ℤ} (b : Bounded base check) where
           (lt-or-ge (sizeAt base) m))
 
     pub rules-vacant : rule2 base check ≡ true → rule3 base check ≡ true → Vacant chained base check
-    rules-vacant e₂ e₃ i h u = let next = third e₃ i h u ∙ same-next (λ j l k v. second e₂ j l k v .0) i in
+    rules-vacant e₂ e₃ i h u = let next = third-rule e₃ i h u ∙ same-next (λ j l k v. second e₂ j l k v .0) i in
         (unused-free (λ j l k v. second e₂ j l k v .1) i h u, minus-is (getD check i (positive 0)) next (omega (arith, next-after t i)))
 
     module _ (v : Vacant chained base check) where

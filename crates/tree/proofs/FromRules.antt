@@ -18,6 +18,7 @@ use Rattle.rules.specs.Table.{Cells, Table, free, used, node}
 use Rattle.rules.specs.ASoundTable.{holds, sizeAt, home, usedAt, hasChild, codeAt, rule4, rule5, rule6, rule7}
 use Rattle.rules.specs.Rendering.{Kind, baseOf, checkOf, renderBase, readCells, readTable}
 use Rattle.rules.proofs.Choices.{both, either}
+use Rattle.rules.proofs.Lengths.{lengths-same, lengths-within}
 use Rattle.rules.proofs.Ranges.{within-is}
 use Rattle.tree.specs.Soundness.{Held, aLeaf, anInner, Fruit, Bare, Sits, Tree, Sound}
 use Rattle.tree.specs.Renders.{Renders}
@@ -26,7 +27,7 @@ use Rattle.tree.proofs.Trees.{row-low, held-inner, held-end, used-pos, 
 use Rattle.tree.proofs.Elements.{check-root, check-used, check-link, check-past, base-length, check-length}
 use Rattle.tree.proofs.Elements.{read-base, read-row, base-at, base-plus, base-minus, check-at}
 use Rattle.tree.proofs.Climbs.{PathTo, path-home, home-path}
-use Rattle.tree.proofs.ReadTests.{holds-is, element-free, lengths-are, header, Ruled}
+use Rattle.tree.proofs.ReadTests.{holds-is, element-free, header, Ruled}
 use Rattle.tree.proofs.ReadTests.{used-parent, used-base, used-row, used-inside, parent-base, others-to, has-child-next}
 
 module _ {K : Kind} {P : Profile} {base check : List ℤ} (r : Ruled K P base check) where
@@ -160,7 +161,7 @@ module _ {K : Kind} {P : Profile} {base check : List ℤ} (r : Ruled K P base ch
   t = readTable base check
 
   long : sizeAt base < length base
-  long = omega (arith, r .bounded .fits, lengths-are base check (r .bounded .lengths) .1)
+  long = omega (arith, r .bounded .fits, lengths-within base check (r .bounded .lengths) .0)
 
   size-element : getD base 0 (positive 0) ≡ baseOf t 0
   unfolding readTable baseOf
@@ -196,11 +197,11 @@ module _ {K : Kind} {P : Profile} {base check : List ℤ} (r : Ruled K P base ch
 
   pub ruled-render : Renders K P base check t
   unfolding readTable
-  ruled-render = let (same, two) = lengths-are base check (r .bounded .lengths) in record {
+  ruled-render = record {
     lengths = r .bounded .lengths;
     table = ruled-sound;
     fits = r .bounded .fits;
     base-is = ext-getD (positive 0) base _ (sym (base-length t (length base))) (λ i h. base-element i);
-    check-is = ext-getD (positive 0) check _ (sym same ∙ sym (check-length K P t (length base)))
+    check-is = ext-getD (positive 0) check _ (sym (lengths-same base check (r .bounded .lengths)) ∙ sym (check-length K P t (length base)))
         (λ i h. check-element i ∙ sym (check-at K t (ruled-sound .tree) (length base) long i));
   }

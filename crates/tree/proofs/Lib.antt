@@ -43,4 +43,5 @@ pub mod Listing
 pub mod EmptyTable
 pub mod PlainList
 pub mod AnyHistory
+pub mod Finding
 pub mod AnExample

@@ -18,6 +18,7 @@ use Rattle.rules.specs.Table.{Content, Cells, free, used, next}
 use Rattle.rules.specs.ASoundTable.{holds, sizeAt, usedAt, hasChild, others, rule1, rule4, rule5, rule6, rule7}
 use Rattle.rules.specs.Rendering.{Kind, readCells, readTable}
 use Rattle.rules.proofs.Choices.{branch, both, join, otherwise}
+use Rattle.rules.proofs.Lengths.{lengths-same}
 use Rattle.rules.proofs.Ranges.{within-is, below, each-to, inside, some-to, to-each, to-some}
 use Rattle.tree.specs.Soundness.{Sits, Tree}
 use Rattle.tree.proofs.Steps.{step-next, next-step}
@@ -60,10 +61,6 @@ module _ (base check : List ℤ) where
     pub fits : sizeAt base ≤ lastCell base
     pub past : (i : ℕ) → sizeAt base < i → Nought i
 
-  pub lengths-are : rightLengths base check ≡ true → (length base ≡ length check) × (2 ≤ length base)
-  unfolding rightLengths
-  lengths-are e = let (s, r) = both (eqb (length base) (length check)) _ e in (eqb-true _ _ s, within-is 2 65536 (length base) r .0)
-
   abbrev blank : ℕ → Bool
   blank i = leb i (sizeAt base) || (holds base i 0 && holds check i 0)
 
@@ -77,9 +74,9 @@ module _ (base check : List ℤ) where
       let (b, c) = both (holds base i 0) (holds check i 0) e in
       (holds-is base i 0 b, holds-is check i 0 c)
 
-  off-end : rightLengths base check ≡ true → (i : ℕ) → length base ≤ i → Nought i
+  pub off-end : rightLengths base check ≡ true → (i : ℕ) → length base ≤ i → Nought i
   off-end l i h =
-      (List·getD-eq-default base (positive 0) h, List·getD-eq-default check (positive 0) (rw (← lengths-are l .0) h))
+      (List·getD-eq-default base (positive 0) h, List·getD-eq-default check (positive 0) (rw (← lengths-same base check l) h))
 
   pub first-rule : rule1 base check ≡ true → Bounded
   unfolding rule1
@@ -100,7 +97,7 @@ module _ {base check : List ℤ} (b : Bounded base check) where
 
   -- ---- a used cell but the root
 
-  parent-far : (i : ℕ) → 1 ≤ T i .parent → 2 ≤ i
+  pub parent-far : (i : ℕ) → 1 ≤ T i .parent → 2 ≤ i
   unfolding readCells
   parent-far zero u = absurd (omega arith)
   parent-far (suc zero) u = absurd (omega arith)

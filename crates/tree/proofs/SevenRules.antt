@@ -30,7 +30,7 @@ module _ (P : Profile) (base check : List ℤ) where
   abbrev rest : Bool
   rest = rule4 P base check && (rule5 P base check && (rule6 P base check && rule7 P base check))
 
-  root-mark : rule4 P base check ≡ true → minusAt check 1 ≡ 0
+  pub root-mark : rule4 P base check ≡ true → minusAt check 1 ≡ 0
   unfolding rule4
   root-mark e = ap minusOf (holds-is check 1 (P .mark) (both (holds check 1 (P .mark)) _ e .0))
 

@@ -17,6 +17,7 @@ use Rattle.rules.specs.Table.{Cells, Table, next}
 use Rattle.rules.specs.ASoundTable.{sizeAt, home, usedAt, hasChild, codeAt, rule4, rule5, rule6, rule7}
 use Rattle.rules.specs.Rendering.{Kind, checkOf, readCells, readTable}
 use Rattle.rules.proofs.Choices.{branch, fails, join, otherwise}
+use Rattle.rules.proofs.Lengths.{lengths-same, lengths-within}
 use Rattle.rules.proofs.Ranges.{inside}
 use Rattle.tree.specs.Soundness.{Held, aLeaf, anInner, Fruit, Tree, Deep}
 use Rattle.tree.specs.Renders.{Renders}
@@ -24,12 +25,12 @@ use Rattle.tree.proofs.UsedCells.{is-used, other-parent, unused-other, 
 use Rattle.tree.proofs.Trees.{past-unused, used-pos, based-used, no-loop, past-free}
 use Rattle.tree.proofs.Elements.{check-root, check-link, check-past, check-at}
 use Rattle.tree.proofs.Climbs.{all-within, root-home, path-home, home-path}
-use Rattle.tree.proofs.ReadTests.{is-holds, free-element, lengths-are, Bounded, Vacant, header, Ruled}
+use Rattle.tree.proofs.ReadTests.{is-holds, free-element, Bounded, Vacant, header, Ruled}
 use Rattle.tree.proofs.ReadTests.{used-parent, used-base, used-row, parent-base, same-used, to-others, next-has-child}
 
 module _ {K : Kind} {P : Profile} {base check : List ℤ} where
   pub rendered-long : {t : Table} → Renders K P base check t → t .size < length base
-  rendered-long r = omega (arith, r .fits, lengths-are base check (r .lengths) .1)
+  rendered-long r = omega (arith, r .fits, lengths-within base check (r .lengths) .0)
 
   module _ (r : Renders K P base check (readTable base check)) where
     abbrev T : Cells
@@ -120,7 +121,7 @@ module _ {K : Kind} {P : Profile} {base check : List ℤ} where
           (λ h. refl)
 
     enough : suc (P .limit) ≤ length check + P .limit
-    enough = let (e, two) = lengths-are base check (r .lengths) in omega arith
+    enough = omega (arith, lengths-same base check (r .lengths), lengths-within base check (r .lengths) .0)
 
     pub render-ruled : Ruled K P base check
     unfolding rule5 rule6 rule7
@@ -135,6 +136,6 @@ module _ {K : Kind} {P : Profile} {base check : List ℤ} where
 
     pub render-home : (i : ℕ) → usedAt base check i ≡ true → home check (suc (P .limit)) i ≡ true
     render-home i u = ⊎-elim
-        (λ e. root-home base check (suc (P .limit)) e)
+        (λ e. root-home check (suc (P .limit)) e)
         (λ d. climbs i (other-parent T i d (sym (same-used bounded i) ∙ u)) (suc (P .limit)) (omega arith))
         (same? i 1)

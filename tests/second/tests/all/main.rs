@@ -9,4 +9,5 @@ mod generator;
 mod histories;
 mod printed_sheet;
 mod refusals;
+mod stored_output;
 mod traps;

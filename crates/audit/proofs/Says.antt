@@ -1,0 +1,45 @@
+-- Laws of a yes or no and what it is about. Assumes nothing.
+use mathlib.Core.Path.{_≡_, refl, sym, _∙_}
+use mathlib.Core.Bool.{Bool, true, false, not, true≢false}
+use Prim.Native.Nat.{ℕ, _<_}
+use native.Mathlib.Nat.{not-le-of-lt}
+use lib.Dec.{ltb, eqb}
+use borrow.Author.Tests.{eqb-true, eqb-false, ltb-true, ltb-false, not-true, not-false}
+use Rattle.rules.proofs.Choices.{fails}
+use Rattle.audit.specs.Says.{Says}
+
+module _ {A : Type 0} where
+  pub says-yes : A → Says A true
+  says-yes a = record { yes = λ e. a; no = λ e. absurd (true≢false e) }
+
+  pub says-no : (A → ⊥) → Says A false
+  says-no n = record { yes = λ e. absurd (true≢false (sym e)); no = λ e. n }
+
+  -- The same answer, about what is so exactly if A is.
+  pub says-too : {B : Type 0} {r : Bool} → Says A r → (A → B) → (B → A) → Says B r
+  says-too s f g = record { yes = λ e. f (s .yes e); no = λ e b. s .no e (g b) }
+
+  -- After `if !r`.
+  module _ (r : Bool) (s : Says A r) where
+    pub said-no : not r ≡ true → A → ⊥
+    said-no e = s .no (not-true r e)
+
+    pub said-yes : not r ≡ false → A
+    said-yes e = s .yes (not-false r e)
+
+-- ---- tests
+
+module _ (a b : ℕ) where
+  pub says-same : Says (a ≡ b) (eqb a b)
+  says-same = record { yes = eqb-true a b; no = eqb-false a b }
+
+  pub says-less : Says (a < b) (ltb a b)
+  says-less = record { yes = ltb-true a b; no = λ e h. not-le-of-lt h (ltb-false a b e) }
+
+-- An answer that equals a test says whether the test passes, and the other way round.
+pub says-as : {r s : Bool} → r ≡ s → Says (s ≡ true) r
+says-as e = record { yes = λ t. sym e ∙ t; no = λ f t. true≢false (sym t ∙ sym e ∙ f) }
+
+pub as-said : (r : Bool) {s : Bool} → Says (s ≡ true) r → r ≡ s
+as-said true y = sym (y .yes refl)
+as-said false {s} y = sym (fails s (y .no refl))

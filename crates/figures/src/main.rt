@@ -1,0 +1,299 @@
+// Runs the public calls on document 01's figures, on tables that break one rule alone, on P3 with each element in turn replaced
+// by extreme values, and on lengths at the edges, and prints every answer. What it has to print is in `stdout`; a test of the
+// second program writes the same text from its own calls.
+use rules::Answer;
+ghost use Prim.Native.Nat.{_≤_, _<_};
+ghost use lib.ListN.{length};
+
+// Two arrays of the figures' length.
+struct Pair {
+    base: [i32; 9],
+    check: [i32; 9],
+}
+
+fn main() {
+    show_tables();
+    show_damages();
+    show_ladders();
+    show_fresh(9, 9);
+    show_fresh(2, 2);
+    show_fresh(1, 1);
+    show_fresh(0, 0);
+    show_fresh(9, 8);
+    show_fresh(2, 3);
+    show_longest();
+    show_too_long();
+}
+
+// ---- what is printed
+
+fn text(bytes: &[u8]) {
+    io::write_all(1, bytes);
+}
+
+fn number(n: usize) {
+    text(b" ");
+    io::print_decimal(1, n as u64);
+}
+
+fn signed(x: i32) {
+    if x < 0 {
+        text(b" -");
+        io::print_decimal(1, numbers::minus(x) as u64);
+    } else {
+        number(numbers::plus(x));
+    }
+}
+
+fn elements(s: &[i32]) {
+    let mut i = 0;
+    while i < s.len() {
+        signed(s[i]);
+        i += 1;
+    }
+}
+
+fn answer(a: Answer) {
+    number(a.number() as usize);
+    number(a.value());
+}
+
+// What audit answers, and find to a few identifiers.
+fn answers(base: &[i32], check: &[i32]) {
+    text(b": audit");
+    answer(index::audit(base, check));
+    text(b", a");
+    answer(index::find(base, check, b"a"));
+    text(b", ab");
+    answer(index::find(base, check, b"ab"));
+    text(b", c-0");
+    answer(index::find(base, check, b"c-0"));
+    text(b", A");
+    answer(index::find(base, check, b"A"));
+    text(b"\n");
+}
+
+// ---- tables
+
+// P1 to P5 (P6 is P1); two cells that are each other's parent, a cell that is its own, a leaf right below the root.
+fn table(n: usize) -> Pair {
+    match n {
+        1 => Pair {
+            base: [1, 1, 0, 0, 0, 0, 0, 0, 0],
+            check: [-2, 1, 0, 0, 0, 0, 0, 0, 0],
+        },
+        2 => Pair {
+            base: [4, 1, -7, 1, 1, 0, 0, 0, 0],
+            check: [-5, 1, 4, 1, 3, 0, 0, 0, 0],
+        },
+        3 => Pair {
+            base: [7, 1, -7, 4, 0, -9, 0, 1, 0],
+            check: [-4, 1, 7, 1, -6, 3, -8, 3, 0],
+        },
+        4 => Pair {
+            base: [6, 1, -7, 3, -9, 0, 1, 0, 0],
+            check: [-5, 1, 6, 1, 3, -7, 3, 0, 0],
+        },
+        5 => Pair {
+            base: [3, 1, -9, 1, 0, 0, 0, 0, 0],
+            check: [-4, 1, 3, 1, 0, 0, 0, 0, 0],
+        },
+        6 => Pair {
+            base: [6, 1, 0, 0, 0, 4, 3, 0, 0],
+            check: [-2, 1, -3, -4, -7, 6, 5, 0, 0],
+        },
+        7 => Pair {
+            base: [5, 1, 0, 0, 0, 3, 0, 0, 0],
+            check: [-2, 1, -3, -4, -6, 5, 0, 0, 0],
+        },
+        _ => Pair {
+            base: [2, 1, -5, 0, 0, 0, 0, 0, 0],
+            check: [-3, 1, 1, 0, 0, 0, 0, 0, 0],
+        },
+    }
+}
+
+fn show_tables() {
+    for n in 1..9 {
+        show_table(n);
+    }
+}
+
+fn show_table(n: usize) {
+    let p = table(n);
+    let base = p.base;
+    let check = p.check;
+    text(b"table");
+    number(n);
+    answers(&base, &check);
+}
+
+// ---- P3, damaged
+
+fn extreme(k: usize) -> i32 {
+    match k {
+        0 => -2147483648,
+        1 => -2147483647,
+        2 => -1000001,
+        3 => -1000000,
+        4 => -8,
+        5 => -1,
+        6 => 0,
+        7 => 1,
+        8 => 8,
+        9 => 9,
+        _ => 2147483647,
+    }
+}
+
+fn show_damages() {
+    for i in 0..9 {
+        show_damage(i);
+    }
+}
+
+fn show_damage(i: usize)
+    requires { ⌜ i < 9 ⌝ }
+{
+    for k in 0..11 {
+        damage_base(i, extreme(k));
+        damage_check(i, extreme(k));
+    }
+}
+
+fn damage_base(i: usize, x: i32)
+    requires { ⌜ i < 9 ⌝ }
+{
+    let p = table(3);
+    let mut base = p.base;
+    let check = p.check;
+    base[i] = x;
+    text(b"base");
+    number(i);
+    signed(x);
+    answers(&base, &check);
+}
+
+fn damage_check(i: usize, x: i32)
+    requires { ⌜ i < 9 ⌝ }
+{
+    let p = table(3);
+    let base = p.base;
+    let mut check = p.check;
+    check[i] = x;
+    text(b"check");
+    number(i);
+    signed(x);
+    answers(&base, &check);
+}
+
+// ---- one identifier of k times the letter a
+
+fn show_ladders() {
+    for k in 1..34 {
+        show_ladder(k);
+    }
+}
+
+// Its cells are 3 to k + 2, each below the one before, the first below the root; its leaf is cell k + 3. Cell 2 is free.
+fn show_ladder(k: usize)
+    requires { ⌜ (1 ≤ k) × (k ≤ 33) ⌝ }
+{
+    let mut base = [0i32; 40];
+    let mut check = [0i32; 40];
+    put_root(&mut base, &mut check, k + 3);
+    put_rungs(&mut base, k + 3);
+    put_rungs(&mut check, k + 3);
+    put_ends(&mut base, &mut check, k + 3);
+    let letters = [97u8; 33];
+    show_letters(&base, &check, &letters, k);
+}
+
+// The header, the root and the free cell.
+fn put_root(base: &mut [i32], check: &mut [i32], leaf: usize)
+    requires { ⌜ leaf ≤ 36 ⌝ }
+{
+    numbers::put_plus(base, 0, leaf);
+    numbers::put_plus(base, 1, 1);
+    numbers::put_minus(check, 0, 2);
+    numbers::put_plus(check, 1, 1);
+    numbers::put_minus(check, 2, leaf + 1);
+}
+
+// The cell t has the base t - 1 and the parent t - 1.
+fn put_rungs(s: &mut [i32], leaf: usize)
+    requires { ⌜ leaf ≤ 36 ⌝ }
+{
+    for t in 3..leaf {
+        numbers::put_plus(s, t, t - 1);
+    }
+}
+
+// The first cell's parent, the last one's base, and the leaf.
+fn put_ends(base: &mut [i32], check: &mut [i32], leaf: usize)
+    requires { ⌜ (4 ≤ leaf) × (leaf ≤ 36) ⌝ }
+{
+    numbers::put_plus(check, 3, 1);
+    numbers::put_plus(base, leaf - 1, leaf - 1);
+    numbers::put_minus(base, leaf, leaf - 3);
+    numbers::put_plus(check, leaf, leaf - 1);
+}
+
+fn show_letters(base: &[i32], check: &[i32], letters: &[u8], k: usize)
+    requires { ⌜ k ≤ length (now letters) ⌝ }
+{
+    text(b"ladder");
+    number(k);
+    text(b": audit");
+    answer(index::audit(base, check));
+    text(b", its identifier");
+    answer(index::find(base, check, &letters[..k]));
+    text(b"\n");
+}
+
+// ---- fresh
+
+fn show_fresh(n: usize, m: usize)
+    requires { ⌜ (n ≤ 9) × (m ≤ 9) ⌝ }
+{
+    let mut base = [-77i32; 9];
+    let mut check = [-2147483648i32; 9];
+    make_fresh(&mut base, &mut check, n, m);
+}
+
+// On the first elements of two arrays that hold other things.
+fn make_fresh(base: &mut [i32], check: &mut [i32], n: usize, m: usize)
+    requires { ⌜ (n ≤ length (now base)) × (m ≤ length (now check)) ⌝ }
+{
+    text(b"fresh");
+    number(n);
+    number(m);
+    text(b":");
+    answer(index::fresh(&mut base[..n], &mut check[..m]));
+    text(b"\n");
+    elements(base);
+    text(b"\n");
+    elements(check);
+    text(b"\n");
+}
+
+fn show_longest() {
+    let mut base = [-77i32; 65536];
+    let mut check = [-77i32; 65536];
+    show_long(&mut base, &mut check);
+}
+
+fn show_too_long() {
+    let mut base = [-77i32; 65537];
+    let mut check = [-77i32; 65537];
+    show_long(&mut base, &mut check);
+}
+
+// Fresh on all of two arrays, then audit and find there.
+fn show_long(base: &mut [i32], check: &mut [i32]) {
+    text(b"fresh");
+    number(base.len());
+    text(b":");
+    answer(index::fresh(base, check));
+    answers(base, check);
+}

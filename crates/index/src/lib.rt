@@ -1,0 +1,65 @@
+// The public calls. None of them asks anything of its caller: each has a promise for arrays of any lengths and contents and for
+// any command, refused ones included, and it determines the answer and every element of the arrays that are lent.
+mod finding;
+
+use rules::Answer;
+ghost use lib.ListN.{length, replicate};
+ghost use mathlib.Core.Path.{_≡_};
+ghost use Rattle.numbers.specs.Stored.{positive};
+ghost use Rattle.rules.specs.WhatTheIndexDoes.{document01};
+ghost use Rattle.rules.specs.Rendering.{chained};
+ghost use Rattle.rules.specs.Calls.{freshCall, findCall, auditCall};
+ghost use Rattle.index.specs.Promised.{Answers, Edits};
+
+// Makes the empty table, whatever the arrays held: SIZE, or done.
+pub fn fresh(base: &mut [i32], check: &mut [i32]) -> Answer
+    ensures { λ r. ⌜ Edits (freshCall document01 (now (base .entry)) (now (check .entry))) r (now (base .exit)) (now (check .exit)) ⌝ }
+{
+    if !rules::right_lengths(base, check) {
+        return Answer::Size;
+    }
+    clear(base);
+    clear(check);
+    base[0] = 1;
+    base[1] = 1;
+    check[0] = -2;
+    check[1] = 1;
+    Answer::Done(0)
+}
+
+// Sets every element to 0.
+fn clear(s: &mut [i32])
+    ensures { λ _. ⌜ now (s .exit) ≡ replicate (length (now (s .entry))) (positive 0) ⌝ }
+{
+    let mut i = 0;
+    while i < s.len() {
+        s[i] = 0;
+        i += 1;
+    }
+}
+
+// Looks an identifier up: SIZE, KEY, ABSENT, or done with its row. It runs no audit and walks damaged cells safely.
+pub fn find(base: &[i32], check: &[i32], key: &[u8]) -> Answer
+    ensures { λ r. ⌜ Answers (findCall document01 (now (base .entry)) (now (check .entry)) (now (key .entry))) r ⌝ }
+{
+    if !rules::right_lengths(base, check) {
+        return Answer::Size;
+    }
+    if !rules::is_identifier(key) {
+        return Answer::Key;
+    }
+    finding::row(base, check, key)
+}
+
+// Says whether the arrays hold a sound table: SIZE, DAMAGED, or done.
+pub fn audit(base: &[i32], check: &[i32]) -> Answer
+    ensures { λ r. ⌜ Answers (auditCall chained document01 (now (base .entry)) (now (check .entry))) r ⌝ }
+{
+    if !rules::right_lengths(base, check) {
+        return Answer::Size;
+    }
+    if !audit::is_sound(base, check) {
+        return Answer::Damaged;
+    }
+    Answer::Done(0)
+}

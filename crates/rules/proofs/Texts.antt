@@ -1,0 +1,19 @@
+-- A text that is read from its front: its first byte, and the rest as the part of the slice behind it. Assumes nothing.
+use mathlib.Core.Path.{_≡_, refl, sym, ap}
+use mathlib.Core.List.{List, [], _∷_}
+use Prim.Native.Nat.{ℕ, _-_, _≤_, _<_}
+use native.Mathlib.Omega.{arith}
+use lib.ListN.{length, getD, take, drop}
+use lib.Seq.{take-all}
+
+-- The part of a slice behind its first element.
+abbrev pub behind : List ℕ → List ℕ
+behind text = take (length text - 1) (drop 1 text)
+
+pub first-and-rest : (text : List ℕ) → 0 < length text → text ≡ getD text 0 0 ∷ behind text
+first-and-rest [] h = absurd (omega arith)
+first-and-rest (b ∷ bs) h = ap (λ (r : List ℕ). b ∷ r) (sym (take-all (length (b ∷ bs) - 1) bs (omega arith)))
+
+pub none-left : (text : List ℕ) → length text ≤ 0 → text ≡ []
+none-left [] h = refl
+none-left (b ∷ bs) h = absurd (omega arith)

@@ -1,0 +1,84 @@
+//! What the proved program `crates/figures` has to print, written by the second program's calls.
+
+use crate::common::Pair;
+use crate::figures::{p1, p2, p3, p4, p5};
+use second::*;
+use std::fmt::Write;
+
+const STORED: &str = include_str!("../../../../crates/figures/stdout");
+
+const EXTREMES: [i32; 11] =
+    [i32::MIN, i32::MIN + 1, -1_000_001, -1_000_000, -8, -1, 0, 1, 8, 9, i32::MAX];
+
+/// Both numbers of an answer.
+fn said(answer: Answer) -> String {
+    format!(" {} {}", answer.number, answer.value)
+}
+
+fn answers(pair: &Pair) -> String {
+    let mut line = format!(": audit{}", said(audit(&pair.base, &pair.check)));
+    for key in ["a", "ab", "c-0", "A"] {
+        let answer = find(&pair.base, &pair.check, key.as_bytes());
+        write!(line, ", {key}{}", said(answer)).unwrap();
+    }
+    line + "\n"
+}
+
+fn tables() -> String {
+    let ring = Pair::built(9, 6, &[(1, 1, 1), (5, 6, 4), (6, 5, 3)]);
+    let own = Pair::built(9, 5, &[(1, 1, 1), (5, 5, 3)]);
+    let shallow = Pair::built(9, 2, &[(1, 1, 1), (2, 1, -5)]);
+    let tables = [p1(), p2(), p3(), p4(), p5(), ring, own, shallow];
+    let lines = (1..).zip(&tables);
+    lines.map(|(n, pair)| format!("table {n}{}", answers(pair))).collect()
+}
+
+fn damage() -> String {
+    let mut text = String::new();
+    for i in 0..9 {
+        for x in EXTREMES {
+            let (mut base, mut check) = (p3(), p3());
+            (base.base[i], check.check[i]) = (x, x);
+            write!(text, "base {i} {x}{}", answers(&base)).unwrap();
+            write!(text, "check {i} {x}{}", answers(&check)).unwrap();
+        }
+    }
+    text
+}
+
+/// One identifier of k times the letter a.
+fn ladder(k: usize) -> String {
+    let leaf = k as i32 + 3;
+    let mut used = vec![(1, 1, 1), (3, 1, 2)];
+    used.extend((4..leaf).map(|cell| (cell as usize, cell - 1, cell - 1)));
+    used.last_mut().unwrap().2 = leaf - 1;
+    used.push((leaf as usize, leaf - 1, -(k as i32)));
+    let pair = Pair::built(40, leaf as usize, &used);
+    let found = find(&pair.base, &pair.check, "a".repeat(k).as_bytes());
+    let audited = audit(&pair.base, &pair.check);
+    format!("ladder {k}: audit{}, its identifier{}\n", said(audited), said(found))
+}
+
+/// Fresh on the first elements of two arrays that hold other things.
+fn freshly(n: usize, m: usize) -> String {
+    let (mut base, mut check) = ([-77; 9], [i32::MIN; 9]);
+    let answer = fresh(&mut base[..n], &mut check[..m]);
+    let elements = |s: [i32; 9]| s.map(|x| format!(" {x}")).concat();
+    let (base, check) = (elements(base), elements(check));
+    format!("fresh {n} {m}:{}\n{base}\n{check}\n", said(answer))
+}
+
+fn long(n: usize) -> String {
+    let mut pair = Pair::new(vec![-77; n], vec![-77; n]);
+    let answer = fresh(&mut pair.base, &mut pair.check);
+    format!("fresh {n}:{}{}", said(answer), answers(&pair))
+}
+
+#[test]
+fn the_proved_program_prints_what_the_second_one_answers() {
+    let ladders: String = (1..34).map(ladder).collect();
+    let lengths = [(9, 9), (2, 2), (1, 1), (0, 0), (9, 8), (2, 3)];
+    let fresh: String = lengths.map(|(n, m)| freshly(n, m)).concat();
+    let text = tables() + &damage() + &ladders + &fresh + &long(65_536) + &long(65_537);
+    assert!(text == STORED, "{text}");
+}
