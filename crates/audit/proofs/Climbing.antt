@@ -46,7 +46,7 @@ module _ {check : List ℤ} where
     pub climbed-out : {P : Profile} → steps ≡ most P → at ≢ 1 → Climbed P check t 0
     climbed-out e d = lost-home (ap (λ n. home check n t) (omega arith) ∙ w .rises 0 ∙ home-none check at d)
 
-    module _ {depths : List ℕ} (noted : NotedBelow check t depths) (below : at < t) where
+    module _ {size : ℕ} {depths : List ℕ} (noted : NotedBelow check size t depths) (below : at < t) where
       depth-is : Depth check t (getD depths at 0 + steps)
       depth-is = w .deep (getD depths at 0) (noted .each at (w .low) below (w .used))
 

@@ -13,7 +13,7 @@ use Rattle.numbers.specs.Stored.{positive, plusOf, plusAt, minusAt}
 use Rattle.numbers.proofs.Laws.{one-side, sides, at-inside}
 use Rattle.numbers.proofs.Cases.{lt-or-ge, same?, some?}
 use Rattle.rules.specs.Ranges.{within}
-use Rattle.rules.specs.WhatTheIndexDoes.{END, Profile, isRow, rightLengths}
+use Rattle.rules.specs.WhatTheIndexDoes.{END, Profile, isRow}
 use Rattle.rules.specs.Table.{Cells, used}
 use Rattle.rules.specs.ASoundTable.{sizeAt, home, usedAt, freeAt, nextFreeAt, hasChild, codeAt, others}
 use Rattle.rules.specs.ASoundTable.{rule2, rule3, rule4, rule5, rule6, rule7, sound}
@@ -25,7 +25,7 @@ use Rattle.tree.proofs.UsedCells.{unused-other, unused-parent}
 use Rattle.tree.proofs.Elements.{read-parent}
 use Rattle.tree.proofs.ReadTests.{is-holds, off-end, Bounded, rule-first, parent-far, used-parent, to-unused, to-others}
 use Rattle.tree.proofs.SevenRules.{root-mark}
-use Rattle.audit.specs.Kept.{Sized, Nought, PastNought, FreeKept, UsedKept, CellsKept}
+use Rattle.audit.specs.Kept.{Nought, FirstKept, FreeKept, UsedKept, CellsKept}
 use Rattle.audit.specs.Ways.{most, Closed, WayKept, WaysUpTo}
 use Rattle.audit.proofs.NextFree.{next-free-past, next-free-on}
 use Rattle.audit.proofs.Depths.{home-up, home-none, home-longer, home-never}
@@ -33,12 +33,11 @@ use Rattle.audit.proofs.Depths.{home-up, home-none, home-longer, home-n
 nought-element : {xs : List ℤ} {i : ℕ} → Nought xs i → getD xs i (positive 0) ≡ positive 0
 nought-element n = sides _ (positive 0) (n .above) (n .below)
 
-module _
-    {P : Profile} {base check : List ℤ} (lengths : rightLengths base check ≡ true) (past : PastNought base check) (kept : CellsKept P base check) where
+module _ {P : Profile} {base check : List ℤ} {size : ℕ} (first : FirstKept base check size) (kept : CellsKept P base check) where
   -- Past the size no cell has a parent.
   parent-inside : (t : ℕ) → 1 ≤ plusAt check t → t ≤ sizeAt base
   parent-inside t u = ⊎-elim
-      (λ h. absurd (omega (arith, past t h (rw (lengths-same base check lengths) (at-inside plusOf refl check t u)) .1 .above)))
+      (λ h. absurd (omega (arith, first .past t h (rw (lengths-same base check (first .lengths)) (at-inside plusOf refl check t u)) .1 .above)))
       (λ h. h)
       (lt-or-ge (sizeAt base) t)
 
@@ -54,7 +53,7 @@ module _
   kept-closed t far u = let k = used-kept t far u in
       ⊎-elim inl (λ d. inr (based-parent (plusAt check t) (omega arith) (k .inside) (k .based))) (same? (plusAt check t) 1)
 
-  module _ (sized : Sized base (sizeAt base)) (root : rule4 P base check ≡ true) (ways : WaysUpTo P base check (sizeAt base)) where
+  module _ (root : rule4 P base check ≡ true) (ways : WaysUpTo P base check (sizeAt base)) where
     abbrev T : Cells
     T = readCells base check
 
@@ -62,12 +61,12 @@ module _
 
     bounded : Bounded base check
     bounded = record {
-      lengths = lengths;
-      some = sized .some;
+      lengths = first .lengths;
+      some = omega arith;
       fits = omega arith;
       past = λ i h. ⊎-elim
-          (λ l. let (b, c) = past i h l in (nought-element b, nought-element c))
-          (off-end base check lengths i)
+          (λ l. let (b, c) = first .past i h l in (nought-element b, nought-element c))
+          (off-end base check (first .lengths) i)
           (lt-or-ge i (length base));
     }
 
@@ -86,7 +85,7 @@ module _
     third : rule3 base check ≡ true
     unfolding rule3
     third = join
-        (eq-eqb _ _ (kept .first ∙ sym (next-free-on base check 0 (sized .some) (root-mark P base check root))))
+        (eq-eqb _ _ (kept .first ∙ sym (next-free-on base check 0 (omega arith) (root-mark P base check root))))
         (to-unused bounded _ (λ i low high u. eq-eqb _ _ (free-kept i low high u .link)))
 
     -- ---- rules 5 to 7
@@ -146,7 +145,7 @@ module _
           (λ h. refl)
 
       climbs : home check (length check + P .limit) t ≡ true
-      climbs = home-longer check (most P) (length check + P .limit) t (omega (arith, lengths-same base check lengths)) (way .climbs)
+      climbs = home-longer check (most P) (length check + P .limit) t (omega (arith, lengths-same base check (first .lengths))) (way .climbs)
 
     -- ---- all seven
 

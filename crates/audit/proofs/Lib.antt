@@ -7,4 +7,6 @@ pub mod Downwards
 pub mod NextFree
 pub mod Marks
 pub mod Depths
+pub mod Unmarked
+pub mod Unsound
 pub mod Climbing

@@ -55,11 +55,11 @@ module _ {base check : List ℤ} {marks : List Bool} where
     pub mark-none : plusAt check t ≡ 0 → MarksPast base check (t - 1) marks
     mark-none z = record { long = m .long; each = past-less _ t (m .each) (λ high k. absurd (omega arith)); only = m .only }
 
-    pub mark-parent : {p : ℕ} → 2 ≤ t → t ≤ sizeAt base → plusAt check t ≡ p → p < 65536 →
+    pub mark-parent : {p : ℕ} → 2 ≤ t → t ≤ sizeAt base → plusAt check t ≡ p → p ≤ sizeAt base →
         MarksPast base check (t - 1) (set marks p true)
     mark-parent {p} far high is small =
         let h : p < length marks = omega (arith, m .long) in record {
-          long = length-set marks p true ∙ m .long;
+          long = rw length-set (m .long);
           each = past-less _ t
               (λ u l inside k. marked-still marks p _ h (m .each u l inside k))
               (λ inside k. rw is (getD-set-same marks p true false h));

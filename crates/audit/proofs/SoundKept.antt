@@ -8,12 +8,11 @@ use native.Mathlib.Omega.{arith}
 use lib.ListN.{length, getD}
 use lib.IntN.{ℤ}
 use Rattle.numbers.specs.Stored.{positive, plusOf, minusOf, plusAt, minusAt}
-use Rattle.rules.specs.WhatTheIndexDoes.{END, Profile, isRow, rightLengths}
+use Rattle.rules.specs.WhatTheIndexDoes.{END, Profile, isRow}
 use Rattle.rules.specs.Table.{Cells, used, next, node}
 use Rattle.rules.specs.ASoundTable.{sizeAt, hasChild, nextFreeAt, rule1, rule2, rule3, rule4, sound}
 use Rattle.rules.specs.Rendering.{chained, readCells, readTable}
 use Rattle.rules.proofs.Choices.{both}
-use Rattle.rules.proofs.Lengths.{lengths-within}
 use Rattle.tree.specs.Soundness.{Sits, Tree}
 use Rattle.tree.specs.Renders.{Renders}
 use Rattle.tree.proofs.Steps.{step-next}
@@ -24,7 +23,7 @@ use Rattle.tree.proofs.ReadTests.{free-element, Ruled, used-parent, used-base, 
 use Rattle.tree.proofs.FreeCells.{third-rule}
 use Rattle.tree.proofs.ToRules.{render-ruled}
 use Rattle.tree.proofs.SevenRules.{root-mark, rules-render, climbs-home}
-use Rattle.audit.specs.Kept.{Sized, Nought, PastNought, FreeKept, UsedKept, CellsKept}
+use Rattle.audit.specs.Kept.{Nought, FirstKept, FreeKept, UsedKept, CellsKept}
 use Rattle.audit.specs.Ways.{WayKept, WaysUpTo}
 use Rattle.audit.proofs.NextFree.{next-free-on}
 
@@ -49,19 +48,12 @@ module _ (P : Profile) (base check : List ℤ) (e : sound P base check ≡ true)
   unfolding sound
   third = both (rule3 base check) _ (both (rule2 base check) _ (both (rule1 base check) _ e .1) .1) .0
 
-  pub sound-lengths : rightLengths base check ≡ true
-  sound-lengths = renders .lengths
-
-  pub sound-sized : Sized base (sizeAt base)
-  sound-sized = record {
-    is = refl;
-    some = tree .some;
-    fits = omega (arith, tree .some, ruled .bounded .fits);
-    short = lengths-within base check sound-lengths .1;
+  pub sound-first : FirstKept base check (sizeAt base)
+  sound-first = record {
+    lengths = renders .lengths;
+    sized = record { is = refl; some = tree .some; fits = omega (arith, tree .some, ruled .bounded .fits) };
+    past = λ t h l. let (b, c) = ruled .bounded .past t h in (element-nought b, element-nought c);
   }
-
-  pub sound-past : PastNought base check
-  sound-past t h l = let (b, c) = ruled .bounded .past t h in (element-nought b, element-nought c)
 
   pub sound-root : rule4 P base check ≡ true
   sound-root = ruled .fourth

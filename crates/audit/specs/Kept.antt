@@ -7,15 +7,14 @@ use Prim.Native.Nat.{ℕ, _+_, _≤_, _<_}
 use lib.ListN.{length}
 use lib.IntN.{ℤ}
 use Rattle.numbers.specs.Stored.{plusAt, minusAt}
-use Rattle.rules.specs.WhatTheIndexDoes.{END, Profile, isRow}
+use Rattle.rules.specs.WhatTheIndexDoes.{END, Profile, isRow, rightLengths}
 use Rattle.rules.specs.ASoundTable.{sizeAt, nextFreeAt}
 
--- The size, once rule 1 has been asked of it.
+-- What rule 1 says of the size.
 pub record Sized (base : List ℤ) (size : ℕ) : Type 0 where
   pub is : size ≡ sizeAt base
   pub some : 1 ≤ size
   pub fits : size < length base
-  pub short : length base ≤ 65536
 
 -- An array holds 0 at the element i.
 pub record Nought (xs : List ℤ) (i : ℕ) : Type 0 where
@@ -35,6 +34,12 @@ module _ (base check : List ℤ) where
   -- Rule 1: every cell past the size is 0 in both arrays.
   abbrev pub PastNought : Type 0
   PastNought = (t : ℕ) → sizeAt base < t → t < length base → Nought base t × Nought check t
+
+  -- Rule 1.
+  pub record FirstKept (size : ℕ) : Type 0 where
+    pub lengths : rightLengths base check ≡ true
+    pub sized : Sized base size
+    pub past : PastNought
 
   -- Rules 2 and 3 at a cell that is not used: its check is minus `next`, and its base is 0.
   pub record FreeKept (t next : ℕ) : Type 0 where

@@ -16,10 +16,9 @@ abbrev pub marked : List Bool → ℕ → Bool
 marked marks s = getD marks s false
 
 module _ (base check : List ℤ) where
-  -- There is a mark for each cell that two arrays may have; the parent of every cell past t is marked, and no other cell but
-  -- one that has a child.
+  -- There is a mark for each cell up to the size; the parent of every cell past t is marked, and no cell without a child.
   pub record MarksPast (t : ℕ) (marks : List Bool) : Type 0 where
-    pub long : length marks ≡ 65536
+    pub long : sizeAt base < length marks
     pub each : (u : ℕ) → t < u → u ≤ sizeAt base → 1 ≤ plusAt check u → marked marks (plusAt check u) ≡ true
     pub only : (s : ℕ) → marked marks s ≡ true → hasChild base check s ≡ true
 

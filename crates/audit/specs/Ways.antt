@@ -1,7 +1,7 @@
 -- The ways from parent to parent up to the root.
 use mathlib.Core.Path.{_≡_}
 use mathlib.Core.Logic.{_⊎_}
-use mathlib.Core.Bool.{true, false}
+use mathlib.Core.Bool.{Bool, true, false}
 use mathlib.Core.List.{List}
 use Prim.Native.Nat.{ℕ, suc, _≤_, _<_}
 use lib.ListN.{length, getD}
@@ -9,7 +9,9 @@ use lib.IntN.{ℤ}
 use lib.Dec.{leb}
 use Rattle.numbers.specs.Stored.{plusAt}
 use Rattle.rules.specs.WhatTheIndexDoes.{Profile}
-use Rattle.rules.specs.ASoundTable.{sizeAt, home, hasChild}
+use Rattle.rules.specs.ASoundTable.{home, hasChild}
+use Rattle.audit.specs.Kept.{Sized, FirstKept}
+use Rattle.audit.specs.Marks.{MarksPast}
 
 -- The most steps that a cell of a sound table is away from the root: an identifier's characters and its end mark.
 abbrev pub most : Profile → ℕ
@@ -27,17 +29,16 @@ Used check t = (t ≡ 1) ⊎ (1 ≤ plusAt check t)
 abbrev pub Closed : List ℤ → Type 0
 Closed check = (t : ℕ) → 2 ≤ t → 1 ≤ plusAt check t → Used check (plusAt check t)
 
--- There is a note for each cell that two arrays may have; those of the used cells below t say how deep they lie.
-pub record NotedBelow (check : List ℤ) (t : ℕ) (depths : List ℕ) : Type 0 where
-  pub long : length depths ≡ 65536
+-- There is a note for each cell up to the size; those of the used cells below t say how deep they lie.
+pub record NotedBelow (check : List ℤ) (size t : ℕ) (depths : List ℕ) : Type 0 where
+  pub long : size < length depths
   pub each : (u : ℕ) → 1 ≤ u → u < t → Used check u → Depth check u (getD depths u 0)
 
 -- What is known where a climb from t starts.
 pub record Starts (check : List ℤ) (t : ℕ) (depths : List ℕ) : Type 0 where
   pub closed : Closed check
-  pub noted : NotedBelow check t depths
+  pub noted : NotedBelow check t t depths
   pub far : 2 ≤ t
-  pub inside : t < 65536
   pub used : 1 ≤ plusAt check t
 
 -- What it gives: how deep t lies, or 0 where that is more than the most.
@@ -55,3 +56,17 @@ module _ (P : Profile) (base check : List ℤ) where
   -- Every used cell up to t but the root.
   abbrev pub WaysUpTo : ℕ → Type 0
   WaysUpTo t = (u : ℕ) → 2 ≤ u → u ≤ t → 1 ≤ plusAt check u → WayKept u
+
+-- What is known before the cells are looked at for the first time: rule 1 holds, nobody is marked, and no depth is noted but
+-- the root's.
+pub record FirstLook (base check : List ℤ) (size : ℕ) (parents : List Bool) (depths : List ℕ) : Type 0 where
+  pub first : FirstKept base check size
+  pub marks : MarksPast base check size parents
+  pub notes : NotedBelow check size 2 depths
+
+-- What is known before they are looked at for the second time: every parent is used and marked.
+pub record SecondLook (base check : List ℤ) (size : ℕ) (parents : List Bool) (depths : List ℕ) : Type 0 where
+  pub sized : Sized base size
+  pub closed : Closed check
+  pub marks : MarksPast base check 1 parents
+  pub notes : NotedBelow check size 2 depths

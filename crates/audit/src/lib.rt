@@ -10,9 +10,9 @@ ghost use Rattle.numbers.specs.Stored.{plusAt};
 ghost use Rattle.rules.specs.WhatTheIndexDoes.{document01};
 ghost use Rattle.rules.specs.ASoundTable.{sizeAt, rule4, sound};
 ghost use Rattle.audit.specs.Says.{Says};
-ghost use Rattle.audit.specs.Kept.{Sized, Nought, PastNought, FreeKept, UsedKept};
+ghost use Rattle.audit.specs.Kept.{Sized, Nought, PastNought, FirstKept, FreeKept, UsedKept};
 ghost use Rattle.audit.specs.Marks.{marked, MarksPast, CellsMarked};
-ghost use Rattle.audit.specs.Ways.{Closed, Starts, Climbed, WaysUpTo};
+ghost use Rattle.audit.specs.Ways.{Starts, Climbed, WaysUpTo, FirstLook, SecondLook};
 
 // Whether the two arrays hold a sound table.
 pub fn is_sound(base: &[i32], check: &[i32]) -> bool
@@ -31,15 +31,55 @@ pub fn is_sound(base: &[i32], check: &[i32]) -> bool
     if !is_past_nought(base, check, size) {
         return false;
     }
+    if base.len() <= SHORT {
+        is_short_kept(base, check, size)
+    } else {
+        is_long_kept(base, check, size)
+    }
+}
+
+// Arrays up to this length have smaller marks and notes, for to clear them takes as long as to look at some hundred cells.
+const SHORT: usize = 4096;
+
+// Rules 2 to 7 on short arrays, where rule 1 holds.
+fn is_short_kept(base: &[i32], check: &[i32], size: usize) -> bool
+    requires { ⌜ FirstKept (now base) (now check) size ⌝ }
+    requires { ⌜ length (now base) ≤ 4096 ⌝ }
+    ensures { λ r. ⌜ r ≡ sound document01 (now (base .entry)) (now (check .entry)) ⌝ }
+{
+    let mut marks = [false; SHORT];
+    let mut notes = [0u8; SHORT];
+    are_rules_kept(base, check, size, &mut marks, &mut notes)
+}
+
+// Rules 2 to 7 on arrays of any permitted length, where rule 1 holds.
+fn is_long_kept(base: &[i32], check: &[i32], size: usize) -> bool
+    requires { ⌜ FirstKept (now base) (now check) size ⌝ }
+    ensures { λ r. ⌜ r ≡ sound document01 (now (base .entry)) (now (check .entry)) ⌝ }
+{
     let mut marks = [false; 65536];
-    let parents: &mut [bool] = &mut marks;
+    let mut notes = [0u8; 65536];
+    are_rules_kept(base, check, size, &mut marks, &mut notes)
+}
+
+// Rules 2 to 7, with nobody marked and no depth noted yet.
+fn are_rules_kept(
+    base: &[i32],
+    check: &[i32],
+    size: usize,
+    parents: &mut [bool],
+    depths: &mut [u8],
+) -> bool
+    requires { ⌜ FirstLook (now base) (now check) size (now parents) (now depths) ⌝ }
+    ensures { λ r. ⌜ r ≡ sound document01 (now (base .entry)) (now (check .entry)) ⌝ }
+{
     if !are_cells_kept(base, check, size, parents) {
         return false;
     }
     if !is_root_kept(base, check, parents) {
         return false;
     }
-    are_ways_kept(base, check, size, parents)
+    are_ways_kept(base, check, size, parents, depths)
 }
 
 // Rule 1: whether every cell past the size is 0 in both arrays.
@@ -139,6 +179,7 @@ fn is_used_kept(base: &[i32], size: usize, t: Cell, parent: Cell) -> bool
 
 // Rule 4, where every parent is marked.
 fn is_root_kept(base: &[i32], check: &[i32], parents: &[bool]) -> bool
+    requires { ⌜ 1 ≤ sizeAt (now base) ⌝ }
     requires { ⌜ MarksPast (now base) (now check) 1 (now parents) ⌝ }
     ensures { λ r. ⌜ r ≡ rule4 document01 (now (base .entry)) (now (check .entry)) ⌝ }
 {
@@ -158,14 +199,16 @@ fn is_root_kept(base: &[i32], check: &[i32], parents: &[bool]) -> bool
 // Rules 6 and 7 at every used cell but the root, where every parent is marked and used: an inner cell has a child, and each
 // comes to the root. The cells are looked at upwards, and how deep each lies is noted, so that a climb ends at the first cell
 // below the one where it started.
-fn are_ways_kept(base: &[i32], check: &[i32], size: usize, parents: &[bool]) -> bool
-    requires { ⌜ Sized (now base) size ⌝ }
-    requires { ⌜ Closed (now check) ⌝ }
-    requires { ⌜ MarksPast (now base) (now check) 1 (now parents) ⌝ }
+fn are_ways_kept(
+    base: &[i32],
+    check: &[i32],
+    size: usize,
+    parents: &[bool],
+    depths: &mut [u8],
+) -> bool
+    requires { ⌜ SecondLook (now base) (now check) size (now parents) (now depths) ⌝ }
     ensures { λ r. ⌜ Says (WaysUpTo document01 (now (base .entry)) (now (check .entry)) (sizeAt (now (base .entry)))) r ⌝ }
 {
-    let mut notes = [0u8; 65536];
-    let depths: &mut [u8] = &mut notes;
     let mut t = 1;
     while t < size {
         t += 1;

@@ -1,12 +1,12 @@
 -- `are_cells_kept` looks at the cells downwards: it asks each, keeps the free cell met last, and marks the parents. The measure
 -- is the number of cells left. Assumes nothing.
-use mathlib.Core.Path.{_≡_, sym, subst, _∙_}
+use mathlib.Core.Path.{_≡_, refl, sym, subst, _∙_}
 use mathlib.Core.Bool.{Bool, true, false, false≢true}
 use mathlib.Core.List.{List}
 use Prim.Native.Nat.{ℕ, zero, suc, _+_, _-_, _≤_}
 use native.Mathlib.Numerals.{add-one, unary-clauses}
 use native.Mathlib.Omega.{arith}
-use lib.ListN.{getD, set}
+use lib.ListN.{length, getD, set, length-set}
 use lib.IntN.{ℤ}
 use lib.Dec.{eqb}
 use Rattle.numbers.specs.Stored.{positive, plusAt, minusAt}
@@ -78,13 +78,12 @@ module _ {base check : List ℤ} {marks : List Bool} where
         used-kept : UsedKept document01 base left p → CellKept document01 base check left
         used-kept u = record { free = λ z. absurd (omega arith); used = λ h. rw is at u }
 
-        used-step : {size : ℕ} → Sized base size → UsedKept document01 base left p →
-            Looked base check (set marks p true) next (left - 1)
-        used-step s u = record {
+        used-step : UsedKept document01 base left p → Looked base check (set marks p true) next (left - 1)
+        used-step u = record {
           low = omega arith;
           high = omega (arith, w .high);
           kept = past-less _ left (w .kept) (λ l. used-kept u);
-          parents = mark-parent (w .parents) far (w .high) (sym is) (omega (arith, u .inside));
+          parents = mark-parent (w .parents) far (w .high) (sym is) (u .inside);
           link = w .link ∙ used-next base check left (w .low) (w .high) (omega arith);
         }
 
@@ -102,7 +101,8 @@ module _ {base check : List ℤ} {marks : List Bool} where
   }
 
 abbrev Inv-loop : tie.InvT-loop
-Inv-loop base check size parents₀ next₀ left₀ parents next left = Looked base check parents next left
+Inv-loop base check size parents₀ next₀ left₀ parents next left =
+    Looked base check parents next left × (length parents ≡ length parents₀)
 
 abbrev μ-loop : tie.MeasureT-loop
 μ-loop base check size parents₀ next₀ left₀ parents next left = left
@@ -111,7 +111,7 @@ add-next : tie.Need-add-next Inv-loop μ-loop
 add-next c = omega arith
 
 loop-holds : tie.Need-loop-holds Inv-loop μ-loop
-loop-holds c = start (c .before .pre .0) (c .before .pre .1)
+loop-holds c = (start (c .before .pre .0) (c .before .pre .1), refl)
 
 sub-left : tie.Need-sub-left Inv-loop μ-loop
 sub-left c = omega arith
@@ -128,7 +128,7 @@ same-length c = omega arith
 returns : tie.Need-returns Inv-loop μ-loop
 returns c =
     let l = c .before .before .before .before in
-    not-all (free-not (l .before .loop .inv) (l .loop-test .taken) (omega arith)
+    not-all (free-not (l .before .loop .inv .0) (l .loop-test .taken) (omega arith)
     (said-no _ (c .before .is-free-kept .ensures) (c .if2 .taken)))
 
 loop-less : tie.Need-loop-less Inv-loop μ-loop
@@ -137,8 +137,8 @@ loop-less c = omega arith
 loop-again : tie.Need-loop-again Inv-loop μ-loop
 loop-again c =
     let l = c .before .before .before .before in
-    free-step (l .before .loop .inv) (l .loop-test .taken) (omega arith)
-    (said-yes _ (c .before .is-free-kept .ensures) (c .if2 .left))
+    let f = said-yes _ (c .before .is-free-kept .ensures) (c .if2 .left) in
+    (free-step (l .before .loop .inv .0) (l .loop-test .taken) (omega arith) f, l .before .loop .inv .1)
 
 is-used-kept-requires : tie.Need-is-used-kept-requires Inv-loop μ-loop
 is-used-kept-requires c κs = c .before .before .before .before .before .pre .0 .is
@@ -150,7 +150,7 @@ returns-2 : tie.Need-returns-2 Inv-loop μ-loop
 returns-2 c =
     let l = c .before .before .before .before in
     let p = c .before .before .before .plus-at .ensures .is in
-    not-all (used-not (l .before .loop .inv) (l .loop-test .taken) p (omega arith)
+    not-all (used-not (l .before .loop .inv .0) (l .loop-test .taken) p (omega arith)
     (said-no _ (c .before .is-used-kept .ensures) (c .if3 .taken)))
 
 slice-write-parents : tie.Need-slice-write-parents Inv-loop μ-loop
@@ -163,8 +163,8 @@ loop-again-2 : tie.Need-loop-again-2 Inv-loop μ-loop
 loop-again-2 c =
     let l = c .before .before .before .before in
     let p = c .before .before .before .plus-at .ensures .is in
-    used-step (l .before .loop .inv) (l .loop-test .taken) p (omega arith) (l .before .before .before .pre .0)
-    (said-yes _ (c .before .is-used-kept .ensures) (c .if3 .left))
+    let u = said-yes _ (c .before .is-used-kept .ensures) (c .if3 .left) in
+    (used-step (l .before .loop .inv .0) (l .loop-test .taken) p (omega arith) u, simp length-set (l .before .loop .inv .1))
 
 minus-at-requires : tie.Need-minus-at-requires Inv-loop μ-loop
 minus-at-requires c κs = tt
@@ -173,7 +173,7 @@ same-length-3 : tie.Need-same-length-3 Inv-loop μ-loop
 same-length-3 c = omega arith
 
 returns-3 : tie.Need-returns-3 Inv-loop μ-loop
-returns-3 c = all-kept (subst (Looked _ _ _ _) (omega arith) (c .before .before .loop .inv)) (c .minus-at .ensures .is)
+returns-3 c = all-kept (subst (Looked _ _ _ _) (omega arith) (c .before .before .loop .inv .0)) (c .minus-at .ensures .is)
 
 pub are-cells-kept-spec : {M : Type 1} → statement M
 are-cells-kept-spec =

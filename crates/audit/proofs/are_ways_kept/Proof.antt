@@ -6,7 +6,7 @@ use mathlib.Core.Bool.{true, true≢false}
 use mathlib.Core.List.{List}
 use Prim.Native.Nat.{ℕ, _+_, _-_, _≤_, _<_}
 use native.Mathlib.Omega.{arith}
-use lib.ListN.{set, replicate, length-set, length-replicate, getD-replicate}
+use lib.ListN.{length, set, length-set}
 use lib.Seq.{getD-set-same, getD-set-other}
 use lib.IntN.{ℤ}
 use borrow.Author.Tests.{le-leb}
@@ -17,23 +17,13 @@ use Rattle.rules.specs.ASoundTable.{hasChild}
 use Rattle.audit.specs.Ways.{most, Depth, Used, NotedBelow, Climbed, WayKept, WaysUpTo}
 use Rattle.audit.proofs.Says.{says-yes, says-no, said-no, said-yes, as-said}
 use Rattle.audit.proofs.Marks.{marks-say}
-use Rattle.audit.proofs.Depths.{depth-root}
 use Rattle.audit.proofs.are_ways_kept.Statement.{statement}
 use Rattle.audit.proofs.are_ways_kept.Tie as tie
 
 -- ---- the notes
 
-note-start : (check : List ℤ) (n : ℕ) → n ≡ 65536 → NotedBelow check 2 (replicate n 0)
-note-start check n e = record {
-  long = length-replicate n 0 ∙ e;
-  each = λ u h l used. ⊎-elim
-      (λ (v : u ≡ 1). rw (v, getD-replicate {A = ℕ} n 1 0 0 (omega arith)) (depth-root check))
-      (λ d. absurd (omega arith))
-      (same? u 1);
-}
-
-module _ {check : List ℤ} {t : ℕ} {depths : List ℕ} (n : NotedBelow check t depths) where
-  note-none : (Used check t → ⊥) → NotedBelow check (t + 1) depths
+module _ {check : List ℤ} {size t : ℕ} {depths : List ℕ} (n : NotedBelow check size t depths) where
+  note-none : (Used check t → ⊥) → NotedBelow check size (t + 1) depths
   note-none d = record {
     long = n .long;
     each = λ u h l used. ⊎-elim
@@ -42,9 +32,9 @@ module _ {check : List ℤ} {t : ℕ} {depths : List ℕ} (n : NotedBelow check 
         (same? u t);
   }
 
-  note-more : t < 65536 → (d : ℕ) → Depth check t d → NotedBelow check (t + 1) (set depths t d)
+  note-more : t ≤ size → (d : ℕ) → Depth check t d → NotedBelow check size (t + 1) (set depths t d)
   note-more fits d deep = record {
-    long = length-set depths t d ∙ n .long;
+    long = rw length-set (n .long);
     each = λ u h l used. ⊎-elim
         (λ (e : u ≡ t). rw (e, getD-set-same depths t d 0 (omega (arith, n .long))) deep)
         (λ o. rw (getD-set-other depths t u d 0 o) (n .each u h (omega arith) used))
@@ -68,16 +58,13 @@ module _ {base check : List ℤ} where
 
 abbrev Inv-loop : tie.InvT-loop
 Inv-loop base check size parents depths₀ t₀ depths t =
-    (1 ≤ t) × (t ≤ size) × WaysUpTo document01 base check t × NotedBelow check (t + 1) depths
+    (1 ≤ t) × (t ≤ size) × WaysUpTo document01 base check t × NotedBelow check size (t + 1) depths × (length depths ≡ length depths₀)
 
 abbrev μ-loop : tie.MeasureT-loop
 μ-loop base check size parents depths₀ t₀ depths t = size - t
 
-slice-aggregate-depths : tie.Need-slice-aggregate-depths Inv-loop μ-loop
-slice-aggregate-depths c = sym (length-replicate {A = ℕ} 65536 0)
-
 loop-holds : tie.Need-loop-holds Inv-loop μ-loop
-loop-holds c = (omega arith, omega arith, (λ u far l used. absurd (omega arith)), note-start _ 65536 refl)
+loop-holds c = (omega arith, omega arith, (λ u far l used. absurd (omega arith)), c .before .before .pre .notes, refl)
 
 add-t : tie.Need-add-t Inv-loop μ-loop
 add-t c = omega arith
@@ -88,26 +75,31 @@ plus-at-requires c κs = tt
 has-fruit-requires : tie.Need-has-fruit-requires Inv-loop μ-loop
 has-fruit-requires c κs = omega arith
 
+same-length : tie.Need-same-length Inv-loop μ-loop
+same-length c = omega arith
+
 returns : tie.Need-returns Inv-loop μ-loop
 returns c =
-    let m = c .before .before .before .before .before .before .before .before .before .pre .1 .1 in
-    let f = said-no _ (c .before .before .has-fruit .ensures) (c .before .if2 .taken) in
+    let m = c .before .before .before .before .before .before .before .before .pre .marks in
+    let f = said-no _ (c .before .has-fruit .ensures) (c .if2 .taken) in
     says-no (λ w. f (λ h. as-said _ (marks-say m _ (omega arith)) ∙ w _ (omega arith) (omega arith) (omega arith) .fruit h))
 
 climb-requires : tie.Need-climb-requires Inv-loop μ-loop
 climb-requires c κs =
     let l = c .before .before .before .before .before .before in
     record {
-      closed = l .before .before .before .pre .1 .0;
-      noted = l .loop .inv .3;
+      closed = l .before .before .before .pre .closed;
+      noted = record { long = omega (arith, l .loop .inv .3 .long); each = l .loop .inv .3 .each };
       far = omega arith;
-      inside = omega arith;
       used = omega arith;
     }
 
+same-length-2 : tie.Need-same-length-2 Inv-loop μ-loop
+same-length-2 c = omega arith
+
 returns-2 : tie.Need-returns-2 Inv-loop μ-loop
 returns-2 c =
-    let f = c .before .before .climb .ensures .lost (c .before .if3 .taken) in
+    let f = c .before .climb .ensures .lost (c .if3 .taken) in
     says-no (λ w. true≢false (sym (w _ (omega arith) (omega arith) (omega arith) .climbs) ∙ f))
 
 cast-depths : tie.Need-cast-depths Inv-loop μ-loop
@@ -126,8 +118,9 @@ loop-again c =
     let k = c .before .climb .ensures in (
       omega arith,
       omega arith,
-      way-more (l .loop .inv .2) (λ u. way-kept k (omega arith) (λ h. l .before .before .before .pre .1 .1 .only _ (f h))),
+      way-more (l .loop .inv .2) (λ u. way-kept k (omega arith) (λ h. l .before .before .before .pre .marks .only _ (f h))),
       note-more (l .loop .inv .3) (omega arith) _ (k .found (omega arith)),
+      simp length-set (l .loop .inv .4),
     )
 
 loop-less-2 : tie.Need-loop-less-2 Inv-loop μ-loop
@@ -135,15 +128,19 @@ loop-less-2 c = omega arith
 
 loop-again-2 : tie.Need-loop-again-2 Inv-loop μ-loop
 loop-again-2 c =
-    let (low, high, ways, notes) = c .before .before .before .loop .inv in (
+    let (low, high, ways, notes, long) = c .before .before .before .loop .inv in (
       omega arith,
       omega arith,
       way-more ways (λ u. absurd (omega arith)),
       note-none notes (λ u. ⊎-elim (λ e. omega arith) (λ h. omega arith) u),
+      long,
     )
 
+same-length-3 : tie.Need-same-length-3 Inv-loop μ-loop
+same-length-3 c = omega arith
+
 returns-3 : tie.Need-returns-3 Inv-loop μ-loop
-returns-3 c = says-yes (λ u far l. c .before .before .loop .inv .2 u far (omega arith))
+returns-3 c = says-yes (λ u far l. c .before .loop .inv .2 u far (omega arith))
 
 pub are-ways-kept-spec : {M : Type 1} → statement M
 are-ways-kept-spec =
@@ -151,13 +148,14 @@ are-ways-kept-spec =
     (tie.spec
     Inv-loop
     μ-loop
-    slice-aggregate-depths
     loop-holds
     add-t
     plus-at-requires
     has-fruit-requires
+    same-length
     returns
     climb-requires
+    same-length-2
     returns-2
     cast-depths
     slice-write-depths
@@ -165,4 +163,5 @@ are-ways-kept-spec =
     loop-again
     loop-less-2
     loop-again-2
+    same-length-3
     returns-3)

@@ -9,7 +9,7 @@ minus-at-requires : tie.Need-minus-at-requires
 minus-at-requires c κs = search needs
 
 returns : tie.Need-returns
-returns c = says-no (λ k. c .if1 .taken (omega arith))
+returns c = says-no (λ k. omega (arith, c .if1 .taken))
 
 is-nought-requires : tie.Need-is-nought-requires
 is-nought-requires c κs = search needs

@@ -9,7 +9,7 @@ plus-at-requires : tie.Need-plus-at-requires
 plus-at-requires c κs = search needs
 
 returns : tie.Need-returns
-returns c = says-no (λ n. c .if1 .taken (omega arith))
+returns c = says-no (λ n. omega (arith, c .if1 .taken))
 
 minus-at-requires : tie.Need-minus-at-requires
 minus-at-requires c κs = search needs

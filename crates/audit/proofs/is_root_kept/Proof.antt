@@ -44,7 +44,7 @@ plus-at-requires : tie.Need-plus-at-requires
 plus-at-requires c κs = search needs
 
 returns : tie.Need-returns
-returns c = unmarked _ _ (λ e. c .if1 .taken (omega arith))
+returns c = unmarked _ _ (λ e. omega (arith, c .if1 .taken))
 
 plus-at-requires-2 : tie.Need-plus-at-requires-2
 plus-at-requires-2 c κs = search needs
@@ -60,7 +60,7 @@ shared-slice-read-result c = search needs
 
 returns-4 : tie.Need-returns-4
 returns-4 c =
-    let m = c .before .before .before .before .before .before .before .pre in
+    let m = c .before .before .before .before .before .before .before .pre .1 in
     as-said _ (marks-say m 1 (omega arith)) ∙ grown _ _ (omega arith) (omega arith)
 
 pub is-root-kept-spec : {M : Type 1} → statement M

@@ -1,0 +1,28 @@
+-- `is_long_kept` lends marks and notes for as many cells as arrays can have. Assumes nothing.
+use native.Mathlib.Omega.{arith}
+use borrow.Author.Needs.{needs}
+use Rattle.rules.proofs.Lengths.{lengths-within}
+use Rattle.audit.proofs.Unmarked.{first-look}
+use Rattle.audit.proofs.is_long_kept.Statement.{statement}
+use Rattle.audit.proofs.is_long_kept.Tie as tie
+
+slice-aggregate-are-rules-kept : tie.Need-slice-aggregate-are-rules-kept
+slice-aggregate-are-rules-kept c = search needs
+
+slice-aggregate-are-rules-kept-2 : tie.Need-slice-aggregate-are-rules-kept-2
+slice-aggregate-are-rules-kept-2 c = search needs
+
+are-rules-kept-requires : tie.Need-are-rules-kept-requires
+are-rules-kept-requires c κs = first-look (c .before .before .pre) 65536 (let f = c .before .before .pre in omega (arith, f .sized .fits, lengths-within _ _ (f .lengths) .1))
+
+returns : tie.Need-returns
+returns c = search needs
+
+pub is-long-kept-spec : {M : Type 1} → statement M
+is-long-kept-spec =
+    tie.close
+    (tie.spec
+    slice-aggregate-are-rules-kept
+    slice-aggregate-are-rules-kept-2
+    are-rules-kept-requires
+    returns)
