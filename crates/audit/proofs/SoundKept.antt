@@ -5,7 +5,7 @@ use mathlib.Core.Bool.{true}
 use mathlib.Core.List.{List, [], _∷_}
 use Prim.Native.Nat.{ℕ, _+_, _≤_}
 use native.Mathlib.Omega.{arith}
-use lib.ListN.{length, getD}
+use lib.ListN.{getD}
 use lib.IntN.{ℤ}
 use Rattle.numbers.specs.Stored.{positive, plusOf, minusOf, plusAt, minusAt}
 use Rattle.rules.specs.WhatTheIndexDoes.{END, Profile, isRow}

@@ -32,17 +32,17 @@ pub fn is_sound(base: &[i32], check: &[i32]) -> bool
         return false;
     }
     if base.len() <= SHORT {
-        is_short_kept(base, check, size)
+        are_rules_kept_short(base, check, size)
     } else {
-        is_long_kept(base, check, size)
+        are_rules_kept_long(base, check, size)
     }
 }
 
-// Arrays up to this length have smaller marks and notes, for to clear them takes as long as to look at some hundred cells.
+// Arrays up to this length get small marks and notes: to clear the large ones costs more than to audit a small table.
 const SHORT: usize = 4096;
 
 // Rules 2 to 7 on short arrays, where rule 1 holds.
-fn is_short_kept(base: &[i32], check: &[i32], size: usize) -> bool
+fn are_rules_kept_short(base: &[i32], check: &[i32], size: usize) -> bool
     requires { ⌜ FirstKept (now base) (now check) size ⌝ }
     requires { ⌜ length (now base) ≤ 4096 ⌝ }
     ensures { λ r. ⌜ r ≡ sound document01 (now (base .entry)) (now (check .entry)) ⌝ }
@@ -53,12 +53,12 @@ fn is_short_kept(base: &[i32], check: &[i32], size: usize) -> bool
 }
 
 // Rules 2 to 7 on arrays of any permitted length, where rule 1 holds.
-fn is_long_kept(base: &[i32], check: &[i32], size: usize) -> bool
+fn are_rules_kept_long(base: &[i32], check: &[i32], size: usize) -> bool
     requires { ⌜ FirstKept (now base) (now check) size ⌝ }
     ensures { λ r. ⌜ r ≡ sound document01 (now (base .entry)) (now (check .entry)) ⌝ }
 {
-    let mut marks = [false; 65536];
-    let mut notes = [0u8; 65536];
+    let mut marks = [false; rules::LONGEST];
+    let mut notes = [0u8; rules::LONGEST];
     are_rules_kept(base, check, size, &mut marks, &mut notes)
 }
 

@@ -12,9 +12,7 @@ struct Pair {
 }
 
 fn main() {
-    show_tables();
-    show_damages();
-    show_ladders();
+    show_all();
     show_fresh(9, 9);
     show_fresh(2, 2);
     show_fresh(1, 1);
@@ -23,6 +21,27 @@ fn main() {
     show_fresh(2, 3);
     show_longest();
     show_too_long();
+}
+
+fn show_all() {
+    for n in 0..50 {
+        show(n);
+    }
+}
+
+// Tables 1 to 8, then P3 with each of its elements 0 to 8 damaged, then identifiers of 1 to 33 letters.
+fn show(n: usize)
+    requires { ⌜ n < 50 ⌝ }
+{
+    if n < 8 {
+        show_table(n + 1);
+        return;
+    }
+    if n < 17 {
+        show_damage(n - 8);
+        return;
+    }
+    show_ladder(n - 16);
 }
 
 // ---- what is printed
@@ -113,12 +132,6 @@ fn table(n: usize) -> Pair {
     }
 }
 
-fn show_tables() {
-    for n in 1..9 {
-        show_table(n);
-    }
-}
-
 fn show_table(n: usize) {
     let p = table(n);
     let base = p.base;
@@ -143,12 +156,6 @@ fn extreme(k: usize) -> i32 {
         8 => 8,
         9 => 9,
         _ => 2147483647,
-    }
-}
-
-fn show_damages() {
-    for i in 0..9 {
-        show_damage(i);
     }
 }
 
@@ -188,12 +195,6 @@ fn damage_check(i: usize, x: i32)
 }
 
 // ---- one identifier of k times the letter a
-
-fn show_ladders() {
-    for k in 1..34 {
-        show_ladder(k);
-    }
-}
 
 // Its cells are 3 to k + 2, each below the one before, the first below the root; its leaf is cell k + 3. Cell 2 is free.
 fn show_ladder(k: usize)

@@ -46,6 +46,9 @@ impl Alphabet {
 // The greatest length of an identifier.
 pub const LIMIT: usize = 32;
 
+// The greatest length of the arrays.
+pub const LONGEST: usize = 65536;
+
 // Whether arrays of these lengths can hold a table: equal lengths, 2 to 65,536 elements.
 pub fn right_lengths(base: &[i32], check: &[i32]) -> bool
     ensures { λ r. ⌜ r ≡ rightLengths (now (base .entry)) (now (check .entry)) ⌝ }
@@ -56,7 +59,7 @@ pub fn right_lengths(base: &[i32], check: &[i32]) -> bool
     if base.len() < 2 {
         return false;
     }
-    base.len() <= 65536
+    base.len() <= LONGEST
 }
 
 // Whether it is an identifier: 1 to 32 characters, each with a code.

@@ -51,11 +51,11 @@ is-past-nought-requires c κs = sized c
 returns-4 : tie.Need-returns-4
 returns-4 c = unsound _ _ _ (λ e. said-no _ (c .before .is-past-nought .ensures) (c .if4 .taken) (sound-first _ _ _ e .past))
 
-is-short-kept-requires : tie.Need-is-short-kept-requires
-is-short-kept-requires c κs = (first (c .before), c .if5 .taken)
+are-rules-kept-short-requires : tie.Need-are-rules-kept-short-requires
+are-rules-kept-short-requires c κs = (first (c .before), c .if5 .taken)
 
-is-long-kept-requires : tie.Need-is-long-kept-requires
-is-long-kept-requires c κs = first (c .before)
+are-rules-kept-long-requires : tie.Need-are-rules-kept-long-requires
+are-rules-kept-long-requires c κs = first (c .before)
 
 returns-5 : tie.Need-returns-5
 returns-5 c = search needs
@@ -74,7 +74,7 @@ is-sound-spec =
     returns-3
     is-past-nought-requires
     returns-4
-    is-short-kept-requires
-    is-long-kept-requires
+    are-rules-kept-short-requires
+    are-rules-kept-long-requires
     returns-5
     returns-6)

@@ -1,12 +1,12 @@
 -- `is_coded` asks each character for its code. Assumes nothing.
 use mathlib.Core.Path.{_≡_, refl, sym, ap, _∙_}
-use mathlib.Core.Bool.{true, false}
+use mathlib.Core.Bool.{false}
 use mathlib.Core.List.{List}
 use Prim.Native.Nat.{ℕ, _<_, _≤_}
 use native.Mathlib.Omega.{arith}
 use lib.ListN.{length, getD}
 use borrow.Author.Tests.{le-leb}
-use Rattle.rules.specs.WhatTheIndexDoes.{codeOf, Code, document01, coded}
+use Rattle.rules.specs.WhatTheIndexDoes.{Code, document01, coded}
 use Rattle.rules.proofs.Texts.{behind, first-and-rest, none-left}
 use Rattle.rules.proofs.is_coded.Statement.{statement}
 use Rattle.rules.proofs.is_coded.Tie as tie

@@ -1,12 +1,9 @@
 -- `right_lengths` decides which arrays can hold a table. Assumes nothing.
-use mathlib.Core.Path.{sym}
-use lib.ListN.{length}
-use native.Mathlib.Omega.{arith}
+use mathlib.Core.Bool.{and-false}
 use borrow.Author.Tests.{eq-eqb, ne-eqb, le-leb}
 use Rattle.rules.specs.Ranges.{within}
 use Rattle.rules.specs.WhatTheIndexDoes.{rightLengths}
 use Rattle.rules.proofs.Ranges.{below}
-use mathlib.Core.Bool.{and-false}
 use Rattle.rules.proofs.right_lengths.Statement.{statement}
 use Rattle.rules.proofs.right_lengths.Tie as tie
 

@@ -1,10 +1,10 @@
--- `is_long_kept` lends marks and notes for as many cells as arrays can have. Assumes nothing.
+-- `are_rules_kept_long` lends marks and notes for as many cells as arrays can have. Assumes nothing.
 use native.Mathlib.Omega.{arith}
 use borrow.Author.Needs.{needs}
 use Rattle.rules.proofs.Lengths.{lengths-within}
 use Rattle.audit.proofs.Unmarked.{first-look}
-use Rattle.audit.proofs.is_long_kept.Statement.{statement}
-use Rattle.audit.proofs.is_long_kept.Tie as tie
+use Rattle.audit.proofs.are_rules_kept_long.Statement.{statement}
+use Rattle.audit.proofs.are_rules_kept_long.Tie as tie
 
 slice-aggregate-are-rules-kept : tie.Need-slice-aggregate-are-rules-kept
 slice-aggregate-are-rules-kept c = search needs
@@ -18,8 +18,8 @@ are-rules-kept-requires c κs = first-look (c .before .before .pre) 65536 (let f
 returns : tie.Need-returns
 returns c = search needs
 
-pub is-long-kept-spec : {M : Type 1} → statement M
-is-long-kept-spec =
+pub are-rules-kept-long-spec : {M : Type 1} → statement M
+are-rules-kept-long-spec =
     tie.close
     (tie.spec
     slice-aggregate-are-rules-kept

@@ -1,9 +1,9 @@
--- `is_short_kept` lends marks and notes for 4,096 cells. Assumes nothing.
+-- `are_rules_kept_short` lends marks and notes for 4,096 cells. Assumes nothing.
 use native.Mathlib.Omega.{arith}
 use borrow.Author.Needs.{needs}
 use Rattle.audit.proofs.Unmarked.{first-look}
-use Rattle.audit.proofs.is_short_kept.Statement.{statement}
-use Rattle.audit.proofs.is_short_kept.Tie as tie
+use Rattle.audit.proofs.are_rules_kept_short.Statement.{statement}
+use Rattle.audit.proofs.are_rules_kept_short.Tie as tie
 
 slice-aggregate-are-rules-kept : tie.Need-slice-aggregate-are-rules-kept
 slice-aggregate-are-rules-kept c = search needs
@@ -17,8 +17,8 @@ are-rules-kept-requires c κs = first-look (c .before .before .pre .0) 4096 (ome
 returns : tie.Need-returns
 returns c = search needs
 
-pub is-short-kept-spec : {M : Type 1} → statement M
-is-short-kept-spec =
+pub are-rules-kept-short-spec : {M : Type 1} → statement M
+are-rules-kept-short-spec =
     tie.close
     (tie.spec
     slice-aggregate-are-rules-kept
