@@ -1,0 +1,71 @@
+//! `cost make KIND LENGTH FILE` writes a full table, made by the second program; `cost audit FILE` and `cost find FILE KEY`
+//! make one call of the proved program on it, for `run` to count. A table's file has base, then check, each number as 4 bytes.
+
+use second::sheets::{line, Random};
+use std::fs;
+use std::process::exit;
+
+extern "C" {
+    fn cost_audit(base: *const i32, base_len: usize, check: *const i32, check_len: usize) -> u64;
+    fn cost_find(
+        base: *const i32,
+        base_len: usize,
+        check: *const i32,
+        check_len: usize,
+        key: *const u8,
+        key_len: usize,
+    ) -> u64;
+}
+
+fn main() {
+    let arguments: Vec<String> = std::env::args().skip(1).collect();
+    let arguments: Vec<&str> = arguments.iter().map(String::as_str).collect();
+    match arguments[..] {
+        ["make", kind, length, file] => make(kind, length.parse().unwrap(), file),
+        ["audit", file] => {
+            let (b, c) = read(file);
+            let number = unsafe { cost_audit(b.as_ptr(), b.len(), c.as_ptr(), c.len()) };
+            println!("answer {number}, cells {}", b[0]);
+        }
+        ["find", file, key] => {
+            let (b, c) = read(file);
+            let (k, n) = (key.as_ptr(), key.len());
+            let row = unsafe { cost_find(b.as_ptr(), b.len(), c.as_ptr(), c.len(), k, n) };
+            println!("row {row}");
+        }
+        _ => exit(2),
+    }
+}
+
+/// Inserts identifiers until they no longer fit.
+fn make(kind: &str, length: usize, file: &str) {
+    let (mut base, mut check) = (vec![0; length], vec![0; length]);
+    second::fresh(&mut base, &mut check);
+    let mut random = Random::new(1);
+    let lines =
+        (0..length as u32 / 2).map(|n| line(1, key(kind, n, &mut random).as_bytes(), n + 1));
+    let sheet = lines.collect::<Vec<_>>().join(&b'\n');
+    let mut out = vec![0; 11 * length];
+    second::run(&mut base, &mut check, &sheet, &mut out);
+    let numbers = base.iter().chain(&check);
+    fs::write(file, numbers.flat_map(|x| x.to_le_bytes()).collect::<Vec<u8>>()).unwrap();
+}
+
+/// Identifiers in ascending order, at random, of 32 characters that begin alike, and at random over all letters.
+fn key(kind: &str, n: u32, random: &mut Random) -> String {
+    match kind {
+        "ascending" => format!("nl-{n:06}"),
+        "random" => format!("nl-{:06}", random.below(1_000_000)),
+        "deep" => format!("abcdefghijklmnopqrstuvwxyz{n:06}"),
+        "sparse" => String::from_utf8(random.word(b"abcdefghijklmnopqrstuvwxyz", 24)).unwrap(),
+        _ => exit(2),
+    }
+}
+
+fn read(file: &str) -> (Vec<i32>, Vec<i32>) {
+    let bytes = fs::read(file).unwrap();
+    let numbers = bytes.chunks_exact(4).map(|x| i32::from_le_bytes(x.try_into().unwrap()));
+    let mut base: Vec<i32> = numbers.collect();
+    let check = base.split_off(base.len() / 2);
+    (base, check)
+}
