@@ -8,5 +8,4 @@ pub mod NextFree
 pub mod Marks
 pub mod Depths
 pub mod Unmarked
-pub mod Unsound
 pub mod Climbing

@@ -35,7 +35,7 @@ module _ (base check : List ℤ) where
   -- Below a used cell it is the same as past it.
   pub next-free-on : (t : ℕ) → suc t ≤ sizeAt base → minusAt check (suc t) ≡ 0 → nextFreeAt base check t ≡ nextFreeAt base check (suc t)
   unfolding nextFreeAt freeAt
-  next-free-on t h z = first-skip passes (sizeAt base) (sizeAt base) (suc t)
+  next-free-on t h z = first-skip passes (sizeAt base) (suc t)
       (rw (le-ltb (sizeAt base) (suc t) h, z))
       (past-passes _ (omega arith))
       (past-passes _ (omega arith))

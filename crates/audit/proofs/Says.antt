@@ -43,3 +43,7 @@ says-as e = record { yes = λ t. sym e ∙ t; no = λ f t. true≢false (sym t �
 pub as-said : (r : Bool) {s : Bool} → Says (s ≡ true) r → r ≡ s
 as-said true y = sym (y .yes refl)
 as-said false {s} y = sym (fails s (y .no refl))
+
+-- No is right where a yes would be refuted.
+pub refuted : {s : Bool} → (s ≡ true → ⊥) → false ≡ s
+refuted n = as-said false (says-no n)

@@ -21,7 +21,8 @@ pub record Nought (xs : List ℤ) (i : ℕ) : Type 0 where
   pub above : plusAt xs i ≡ 0
   pub below : minusAt xs i ≡ 0
 
--- Rules 5 and 6 at a used cell t other than the root, with parent s, and rule 7's two steps at least if it is a leaf.
+-- What is asked of a used cell t other than the root and its parent s: rule 5 (that s is used, and another cell than t, follows
+-- from what else is asked), rule 6 but for the child, and rule 7's two steps at least if t is a leaf.
 pub record UsedKept (P : Profile) (base : List ℤ) (t s : ℕ) : Type 0 where
   pub inside : s ≤ sizeAt base
   pub based : 1 ≤ plusAt base s

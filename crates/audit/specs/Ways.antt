@@ -48,7 +48,8 @@ pub record Climbed (P : Profile) (check : List ℤ) (t r : ℕ) : Type 0 where
   pub small : r ≤ most P
 
 module _ (P : Profile) (base check : List ℤ) where
-  -- Rules 6 and 7 at a used cell t other than the root: if it is an inner cell it has a child, and it comes to the root.
+  -- What is left of rules 6 and 7 at a used cell t other than the root: an inner cell has a child, and t comes to the root within
+  -- the most steps.
   pub record WayKept (t : ℕ) : Type 0 where
     pub fruit : 1 ≤ plusAt base t → hasChild base check t ≡ true
     pub climbs : home check (most P) t ≡ true
@@ -57,8 +58,8 @@ module _ (P : Profile) (base check : List ℤ) where
   abbrev pub WaysUpTo : ℕ → Type 0
   WaysUpTo t = (u : ℕ) → 2 ≤ u → u ≤ t → 1 ≤ plusAt check u → WayKept u
 
--- What is known before the cells are looked at for the first time: rule 1 holds, nobody is marked, and no depth is noted but
--- the root's.
+-- What is known before the cells are looked at for the first time: rule 1 holds, there are marks and notes enough, no mark is
+-- wrong, and the root's depth is noted.
 pub record FirstLook (base check : List ℤ) (size : ℕ) (parents : List Bool) (depths : List ℕ) : Type 0 where
   pub first : FirstKept base check size
   pub marks : MarksPast base check size parents

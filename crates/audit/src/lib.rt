@@ -31,29 +31,29 @@ pub fn is_sound(base: &[i32], check: &[i32]) -> bool
     if !is_past_nought(base, check, size) {
         return false;
     }
-    if base.len() <= SHORT {
-        are_rules_kept_short(base, check, size)
+    if size < SMALL {
+        are_rules_kept_small(base, check, size)
     } else {
-        are_rules_kept_long(base, check, size)
+        are_rules_kept_large(base, check, size)
     }
 }
 
-// Arrays up to this length get small marks and notes: to clear the large ones costs more than to audit a small table.
-const SHORT: usize = 4096;
+// A table whose size is below this gets small marks and notes: to clear the large ones costs more than to audit a small table.
+const SMALL: usize = 4096;
 
-// Rules 2 to 7 on short arrays, where rule 1 holds.
-fn are_rules_kept_short(base: &[i32], check: &[i32], size: usize) -> bool
+// Rules 2 to 7 of a small table, where rule 1 holds.
+fn are_rules_kept_small(base: &[i32], check: &[i32], size: usize) -> bool
     requires { ⌜ FirstKept (now base) (now check) size ⌝ }
-    requires { ⌜ length (now base) ≤ 4096 ⌝ }
+    requires { ⌜ size < 4096 ⌝ }
     ensures { λ r. ⌜ r ≡ sound document01 (now (base .entry)) (now (check .entry)) ⌝ }
 {
-    let mut marks = [false; SHORT];
-    let mut notes = [0u8; SHORT];
+    let mut marks = [false; SMALL];
+    let mut notes = [0u8; SMALL];
     are_rules_kept(base, check, size, &mut marks, &mut notes)
 }
 
-// Rules 2 to 7 on arrays of any permitted length, where rule 1 holds.
-fn are_rules_kept_long(base: &[i32], check: &[i32], size: usize) -> bool
+// Rules 2 to 7 of a table of any size, where rule 1 holds.
+fn are_rules_kept_large(base: &[i32], check: &[i32], size: usize) -> bool
     requires { ⌜ FirstKept (now base) (now check) size ⌝ }
     ensures { λ r. ⌜ r ≡ sound document01 (now (base .entry)) (now (check .entry)) ⌝ }
 {
@@ -148,8 +148,9 @@ fn is_free_kept(base: &[i32], check: &[i32], t: Cell, next: Cell) -> bool
     is_nought(base, t)
 }
 
-// Rules 5 and 6 at a used cell other than the root, with its parent. A parent up to the size that has a positive base is used,
-// for a free cell's base is 0.
+// Rule 5, rule 6 but for the child, and rule 7's two steps at least of a leaf, at a used cell other than the root, with its
+// parent. A parent up to the size that has a positive base is used, for a free cell's base is 0; that it is another cell
+// follows from the climb.
 fn is_used_kept(base: &[i32], size: usize, t: Cell, parent: Cell) -> bool
     requires { ⌜ size ≡ sizeAt (now base) ⌝ }
     ensures { λ r. ⌜ Says (UsedKept document01 (now (base .entry)) (t .0) (parent .0)) r ⌝ }

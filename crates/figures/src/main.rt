@@ -1,6 +1,6 @@
-// Runs the public calls on document 01's figures, on tables that break one rule alone, on P3 with each element in turn replaced
-// by extreme values, and on lengths at the edges, and prints every answer. What it has to print is in `stdout`; a test of the
-// second program writes the same text from its own calls.
+// Runs the public calls on document 01's figures, on three unsound tables, on P3 with each element in turn replaced by extreme
+// values, on identifiers of 1 to 33 letters and on lengths at the edges, and prints every answer. What it has to print is in
+// `stdout`; a test of the second program writes the same text from its own calls.
 use rules::Answer;
 ghost use Prim.Native.Nat.{_≤_, _<_};
 ghost use lib.ListN.{length};

@@ -1,5 +1,5 @@
--- The form of a public promise: a field for each thing that the call determines, each an equation with a total function of what
--- was lent and given at entry.
+-- The form of a promise: a field for each thing that is determined, each an equation with a total function of what was lent and
+-- given at entry. The public calls promise `Answers` or `Edits`, the walk below find `Reaches`.
 use mathlib.Core.Path.{_≡_}
 use mathlib.Core.List.{List}
 use Prim.Native.Nat.{ℕ}

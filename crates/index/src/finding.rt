@@ -15,9 +15,9 @@ ghost use Rattle.rules.specs.Finding.{nextAt, walkAt, rowOf, rowFound};
 ghost use Rattle.index.specs.Promised.{Reaches};
 
 // Where a walk ended, cell 0 where a character led nowhere, and how many characters were found.
-pub struct Reached {
-    pub cell: Cell,
-    pub met: usize,
+struct Reached {
+    cell: Cell,
+    met: usize,
 }
 
 // The row of an identifier, or ABSENT.
@@ -31,7 +31,7 @@ pub fn row(base: &[i32], check: &[i32], key: &[u8]) -> Answer
 }
 
 // The walk from the root along an identifier's characters.
-pub fn walk(base: &[i32], check: &[i32], key: &[u8]) -> Reached
+fn walk(base: &[i32], check: &[i32], key: &[u8]) -> Reached
     requires { ⌜ length (now base) ≤ 65536 ⌝ }
     ensures { λ r. ⌜ Reaches (walkAt (now (base .entry)) (now (check .entry)) 1 (map codeOf (now (key .entry)))) (r .cell .0) (r .met) ⌝ }
 {
@@ -60,7 +60,7 @@ fn step(base: &[i32], check: &[i32], rest: &[u8], reached: Cell) -> Cell
 }
 
 // The cell to which a label leads from s, or cell 0.
-pub fn next(base: &[i32], check: &[i32], s: Cell, code: usize) -> Cell
+fn next(base: &[i32], check: &[i32], s: Cell, code: usize) -> Cell
     requires { ⌜ code ≤ GREATEST ⌝ }
     requires { ⌜ length (now base) ≤ 65536 ⌝ }
     ensures { λ r. ⌜ r .0 ≡ nextAt (now (base .entry)) (now (check .entry)) (s .0) code ⌝ }

@@ -70,7 +70,7 @@ pub negative-fits : (n : ℕ) → n ≤ greatestStored → SFits w32 (negℤ (po
 negative-fits zero h = record { sfits = omega arith }
 negative-fits (suc n) h = record { sfits = omega arith }
 
-pub positive-fits : (n : ℕ) → n ≤ greatestStored → SFits w32 (pos n)
+positive-fits : (n : ℕ) → n ≤ greatestStored → SFits w32 (pos n)
 positive-fits n h = record { sfits = omega arith }
 
 -- ---- two stored numbers are compared by their bits

@@ -50,7 +50,7 @@ pub fn minus_at(s: &[i32], i: usize) -> usize
     if i < s.len() { minus(s[i]) } else { 0 }
 }
 
-// Whether the element i is n.
+// Whether the element i is n; past the end nothing is. Not for 0, which `plusAt` gives for a negative element too.
 pub fn is_at(s: &[i32], i: usize, n: usize) -> bool
     requires { ⌜ (1 ≤ n) × (n ≤ greatestStored) ⌝ }
     ensures { λ r. ⌜ r ≡ eqb (plusAt (now (s .entry)) i) n ⌝ }

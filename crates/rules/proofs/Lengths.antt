@@ -1,4 +1,4 @@
--- What the right lengths are. Assumes nothing.
+-- Arrays of the right lengths have one length, from 2 to 65,536. Assumes nothing.
 use mathlib.Core.Path.{_≡_}
 use mathlib.Core.Bool.{true}
 use mathlib.Core.List.{List}

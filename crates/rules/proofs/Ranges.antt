@@ -1,6 +1,6 @@
 -- Laws of the tests over ranges, and of the first number that passes a test. Assumes nothing.
 use mathlib.Core.Path.{_≡_, refl, sym, ap, ap₂, _∙_}
-use mathlib.Core.Logic.{_≢_, ⊎-elim}
+use mathlib.Core.Logic.{⊎-elim}
 use mathlib.Core.Bool.{Bool, true, false, cond, true≢false, and-false, or-true}
 use Prim.Native.Nat.{ℕ, zero, suc, _+_, _≤_, _<_}
 use native.Mathlib.Nat.{add-zero, add-suc, suc-add, eq-or-lt-of-le, le-antisymm, le-of-suc-le-suc}
@@ -88,13 +88,13 @@ module _ (test : ℕ → Bool) where
   first-here zero q e = refl
   first-here (suc n) q e = rw e
 
-  -- Where it fails, the first is the first of those past it, however many failures are allowed.
-  pub first-skip : (n m q : ℕ) → test q ≡ false → test (q + n) ≡ true → test (suc q + m) ≡ true →
-      firstFrom test n q ≡ firstFrom test m (suc q)
-  first-skip n m q f p r =
-      let a = firstFrom test n q in
-      let passes : test a ≡ true = first-passes n q p in
-      let other : a ≢ q = (λ v. true≢false (sym passes ∙ ap test v ∙ f)) in
-      let low : q ≤ a = first-low n q in
-      let high : suc q ≤ firstFrom test m (suc q) = first-low m (suc q) in
-      le-antisymm (first-least n q _ (omega arith) (first-passes m (suc q) r)) (first-least m (suc q) a (omega arith) passes)
+  -- How many failures are allowed does not matter, where the last number tried passes.
+  first-any : (n m q : ℕ) → test (q + n) ≡ true → test (q + m) ≡ true → firstFrom test n q ≡ firstFrom test m q
+  first-any n m q p r = le-antisymm
+      (first-least n q _ (first-low m q) (first-passes m q r))
+      (first-least m q _ (first-low n q) (first-passes n q p))
+
+  -- Where the one at hand fails, the first is the first of those past it.
+  pub first-skip : (n q : ℕ) → test q ≡ false → test (q + n) ≡ true → test (q + suc n) ≡ true → firstFrom test n q ≡ firstFrom test n (suc q)
+  unfolding firstFrom
+  first-skip n q f p r = first-any n (suc n) q p r ∙ rw f

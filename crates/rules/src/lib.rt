@@ -1,11 +1,15 @@
-// Document 01's types: rows and cells, kept apart, the alphabet of label codes, and what a call answers.
-// What the document says of them stands in specs/, a file for each of its sections.
+// Document 01's types (rows and cells, kept apart, the alphabet of label codes, what a call answers) and the tests of lengths,
+// identifiers and rows that the calls ask. What the document says of them stands in specs/, a file for each of its sections.
 ghost use mathlib.Core.Path.{_≡_};
 ghost use Rattle.rules.specs.WhatTheIndexDoes.{Code, characterOf, document01, rightLengths, isIdentifier, coded, isRow};
 ghost use Rattle.rules.specs.Answers.{number, value};
 
 // A row's number. It is no cell: nothing can be looked up in the arrays by it.
 pub struct Row(pub u32);
+
+impl Row {
+    pub const GREATEST: usize = 1000000;
+}
 
 // A cell's number. It is no row: no call answers with one.
 pub struct Cell(pub usize);
@@ -96,7 +100,7 @@ pub fn is_row(n: usize) -> bool
     if n == 0 {
         return false;
     }
-    n <= 1000000
+    n <= Row::GREATEST
 }
 
 // What a call answers.

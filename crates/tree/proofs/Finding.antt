@@ -111,17 +111,18 @@ module _ {K : Kind} {P : Profile} {base check : List ℤ} (r : Renders K P base 
       let cell = walk-same 1 key k ∙ walk-node T codes [] in
       ap (λ (s : ℕ). nextAt base check s END) cell ∙ next-same (node T (reverse codes)) END (omega arith) ∙ ap (node T) (sym (path-labels P key))
 
-  row-found : (key : List ℕ) → coded P key ≡ true → rowFound base check P key ≡ lookup P T key
+  rendered-row : (key : List ℕ) → coded P key ≡ true → rowFound base check P key ≡ lookup P T key
   unfolding rowFound
-  row-found key k = row-same (leafAt base check P key) ∙ ap (λ (t : ℕ). T t .row) (leaf-same key k) ∙ sym (lookup-row T P key)
+  rendered-row key k = row-same (leafAt base check P key) ∙ ap (λ (t : ℕ). T t .row) (leaf-same key k) ∙ sym (lookup-row T P key)
 
 module _ (P : Profile) (base check : List ℤ) (e : sound P base check ≡ true) where
-  -- So for every string of characters that have codes, as identifiers are.
+  -- The walk's row is the table's, for every string of characters that have codes, as an identifier's have.
   pub found-row : (key : List ℕ) → coded P key ≡ true → rowFound base check P key ≡ lookup P (readCells base check) key
-  found-row = row-found (rules-render P base check e)
+  found-row = rendered-row (rules-render P base check e)
 
   -- ---- the call
 
+  -- The answer is that of any plain list that agrees with the table, whatever the list is told of placements.
   pub find-plain : {last : ℕ} {es : List Entry} → Agrees P last (readTable base check) es → (news : Told) (key : List ℕ) →
       findCall P base check key ≡ replied P news es (find key) .answer
   unfolding findCall replied heard keyAllowed numberAllowed readTable
@@ -130,6 +131,7 @@ module _ (P : Profile) (base check : List ℤ) (e : sound P base check ≡ true)
       (branch₂ (λ x (y : Reply). x ≡ y .answer) (ltb 0 (rowIn es key)) (λ _. refl) (λ _. refl)))
       (λ _. refl))
 
+  -- The table's own listing is such a list.
   pub find-listed : RoundTrip P → (news : Told) (key : List ℕ) →
       findCall P base check key ≡ replied P news (entries P (readCells base check)) (find key) .answer
   unfolding readTable

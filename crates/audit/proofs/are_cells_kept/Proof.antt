@@ -24,11 +24,11 @@ use Rattle.audit.proofs.are_cells_kept.Tie as tie
 
 -- Every cell past `left` has been looked at and is kept, `next` is the free cell met last, and the parents are marked.
 record Looked (base check : List ℤ) (marks : List Bool) (next left : ℕ) : Type 0 where
-  pub low : 1 ≤ left
-  pub high : left ≤ sizeAt base
-  pub kept : KeptPast document01 base check left
-  pub parents : MarksPast base check left marks
-  pub link : next ≡ nextFreeAt base check left
+  low : 1 ≤ left
+  high : left ≤ sizeAt base
+  kept : KeptPast document01 base check left
+  parents : MarksPast base check left marks
+  link : next ≡ nextFreeAt base check left
 
 -- The next free cell after the one below t, where t is free, and where it is used.
 module _ (base check : List ℤ) where
@@ -54,41 +54,41 @@ module _ {base check : List ℤ} {marks : List Bool} where
     link = rw (s .is) (add-one (sizeAt base) ∙ sym (next-free-last base check));
   }
 
-  module _ {next left : ℕ} (w : Looked base check marks next left) where
-    module _ (far : 2 ≤ left) where
-      -- A cell that is not used.
-      module _ (z : plusAt check left ≡ 0) where
-        free-kept : FreeKept base check left next → CellKept document01 base check left
-        free-kept f = record { free = λ e. subst (FreeKept base check left) (w .link) f; used = λ h. absurd (omega arith) }
+  -- One cell more.
+  module _ {next left : ℕ} (w : Looked base check marks next left) (far : 2 ≤ left) where
+    -- A cell that is not used.
+    module _ (z : plusAt check left ≡ 0) where
+      free-kept : FreeKept base check left next → CellKept document01 base check left
+      free-kept f = record { free = λ e. subst (FreeKept base check left) (w .link) f; used = λ h. absurd (omega arith) }
 
-        free-step : FreeKept base check left next → Looked base check marks left (left - 1)
-        free-step f = record {
-          low = omega arith;
-          high = omega (arith, w .high);
-          kept = past-less _ left (w .kept) (λ l. free-kept f);
-          parents = mark-none (w .parents) z;
-          link = free-next base check left (w .low) (f .link ∙ w .link);
-        }
+      free-step : FreeKept base check left next → Looked base check marks left (left - 1)
+      free-step f = record {
+        low = omega arith;
+        high = omega (arith, w .high);
+        kept = past-less _ left (w .kept) (λ l. free-kept f);
+        parents = mark-none (w .parents) z;
+        link = free-next base check left (w .low) (f .link ∙ w .link);
+      }
 
-        free-not : (FreeKept base check left next → ⊥) → CellsKept document01 base check → ⊥
-        free-not n k = n (subst (FreeKept base check left) (sym (w .link)) (k .cells left far (w .high) .free z))
+      free-not : (FreeKept base check left next → ⊥) → CellsKept document01 base check → ⊥
+      free-not n k = n (subst (FreeKept base check left) (sym (w .link)) (k .cells left far (w .high) .free z))
 
-      -- A used cell.
-      module _ {p : ℕ} (is : p ≡ plusAt check left) (some : 1 ≤ p) where
-        used-kept : UsedKept document01 base left p → CellKept document01 base check left
-        used-kept u = record { free = λ z. absurd (omega arith); used = λ h. rw is at u }
+    -- A used cell.
+    module _ {p : ℕ} (is : p ≡ plusAt check left) (some : 1 ≤ p) where
+      used-kept : UsedKept document01 base left p → CellKept document01 base check left
+      used-kept u = record { free = λ z. absurd (omega arith); used = λ h. rw is at u }
 
-        used-step : UsedKept document01 base left p → Looked base check (set marks p true) next (left - 1)
-        used-step u = record {
-          low = omega arith;
-          high = omega (arith, w .high);
-          kept = past-less _ left (w .kept) (λ l. used-kept u);
-          parents = mark-parent (w .parents) far (w .high) (sym is) (u .inside);
-          link = w .link ∙ used-next base check left (w .low) (w .high) (omega arith);
-        }
+      used-step : UsedKept document01 base left p → Looked base check (set marks p true) next (left - 1)
+      used-step u = record {
+        low = omega arith;
+        high = omega (arith, w .high);
+        kept = past-less _ left (w .kept) (λ l. used-kept u);
+        parents = mark-parent (w .parents) far (w .high) (sym is) (u .inside);
+        link = w .link ∙ used-next base check left (w .low) (w .high) (omega arith);
+      }
 
-        used-not : (UsedKept document01 base left p → ⊥) → CellsKept document01 base check → ⊥
-        used-not n k = n (rw is (k .cells left far (w .high) .used (omega arith)))
+      used-not : (UsedKept document01 base left p → ⊥) → CellsKept document01 base check → ⊥
+      used-not n k = n (rw is (k .cells left far (w .high) .used (omega arith)))
 
   -- All cells.
   all-kept : {next n : ℕ} → Looked base check marks next 1 → n ≡ minusAt check 0 →
@@ -137,8 +137,8 @@ loop-less c = omega arith
 loop-again : tie.Need-loop-again Inv-loop μ-loop
 loop-again c =
     let l = c .before .before .before .before in
-    let f = said-yes _ (c .before .is-free-kept .ensures) (c .if2 .left) in
-    (free-step (l .before .loop .inv .0) (l .loop-test .taken) (omega arith) f, l .before .loop .inv .1)
+    let w = l .before .loop .inv in
+    (free-step (w .0) (l .loop-test .taken) (omega arith) (said-yes _ (c .before .is-free-kept .ensures) (c .if2 .left)), w .1)
 
 is-used-kept-requires : tie.Need-is-used-kept-requires Inv-loop μ-loop
 is-used-kept-requires c κs = c .before .before .before .before .before .pre .0 .is
@@ -162,9 +162,10 @@ loop-less-2 c = omega arith
 loop-again-2 : tie.Need-loop-again-2 Inv-loop μ-loop
 loop-again-2 c =
     let l = c .before .before .before .before in
+    let w = l .before .loop .inv in
     let p = c .before .before .before .plus-at .ensures .is in
     let u = said-yes _ (c .before .is-used-kept .ensures) (c .if3 .left) in
-    (used-step (l .before .loop .inv .0) (l .loop-test .taken) p (omega arith) u, simp length-set (l .before .loop .inv .1))
+    (used-step (w .0) (l .loop-test .taken) p (omega arith) u, simp length-set (w .1))
 
 minus-at-requires : tie.Need-minus-at-requires Inv-loop μ-loop
 minus-at-requires c κs = tt

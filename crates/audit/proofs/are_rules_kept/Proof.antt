@@ -12,10 +12,9 @@ use Rattle.rules.proofs.Choices.{was-yes}
 use Rattle.audit.specs.Kept.{FirstKept, CellsKept}
 use Rattle.audit.specs.Marks.{MarksPast}
 use Rattle.audit.specs.Ways.{WaysUpTo}
-use Rattle.audit.proofs.Says.{says-too, says-as, said-no, said-yes, as-said}
+use Rattle.audit.proofs.Says.{says-too, says-as, said-no, said-yes, as-said, refuted}
 use Rattle.audit.proofs.SoundKept.{sound-cells, sound-root, sound-ways}
 use Rattle.audit.proofs.KeptSound.{kept-closed, kept-sound}
-use Rattle.audit.proofs.Unsound.{unsound}
 use Rattle.audit.proofs.are_rules_kept.Statement.{statement}
 use Rattle.audit.proofs.are_rules_kept.Tie as tie
 
@@ -57,7 +56,7 @@ same-length c = search needs
 returns : tie.Need-returns
 returns c =
     let k = c .before .before .before .are-cells-kept .ensures .kept in
-    unsound _ _ _ (λ e. said-no _ k (c .if1 .taken) (sound-cells _ _ _ e))
+    refuted (λ e. said-no _ k (c .if1 .taken) (sound-cells _ _ _ e))
 
 is-root-kept-requires : tie.Need-is-root-kept-requires
 is-root-kept-requires c κs = let f = first (c .before) in (omega (arith, f .sized .is, f .sized .some), marks (c .before))
@@ -67,7 +66,7 @@ same-length-2 c = search needs
 
 returns-2 : tie.Need-returns-2
 returns-2 c =
-    unsound _ _ _ (λ e. said-no _ (says-as (c .before .is-root-kept .ensures)) (c .if2 .taken) (sound-root _ _ _ e))
+    refuted (λ e. said-no _ (says-as (c .before .is-root-kept .ensures)) (c .if2 .taken) (sound-root _ _ _ e))
 
 are-ways-kept-requires : tie.Need-are-ways-kept-requires
 are-ways-kept-requires c κs =

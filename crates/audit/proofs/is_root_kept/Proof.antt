@@ -19,32 +19,32 @@ use Rattle.audit.proofs.is_root_kept.Statement.{statement}
 use Rattle.audit.proofs.is_root_kept.Tie as tie
 
 module _ (base check : List ℤ) where
-  unmarked : plusAt check 1 ≢ 1 → false ≡ rule4 document01 base check
+  other-mark : plusAt check 1 ≢ 1 → false ≡ rule4 document01 base check
   unfolding rule4 holds
-  unmarked d = rw (ne-eqb (plusAt check 1) 1 d)
+  other-mark d = rw (ne-eqb (plusAt check 1) 1 d)
 
   baseless : plusAt base 1 ≡ 0 → false ≡ rule4 document01 base check
   unfolding rule4
   baseless z = rw (z, and-false)
 
   module _ (m : plusAt check 1 ≡ 1) where
-    marked : holds check 1 1 ≡ true
+    mark-holds : holds check 1 1 ≡ true
     unfolding holds
-    marked = rw (m, one-side (getD check 1 (positive 0)) (omega arith))
+    mark-holds = rw (m, one-side (getD check 1 (positive 0)) (omega arith))
 
     lone : plusAt base 1 ≡ 1 → true ≡ rule4 document01 base check
     unfolding rule4
-    lone e = rw (marked, e, or-true)
+    lone e = rw (mark-holds, e, or-true)
 
     grown : 2 ≤ plusAt base 1 → hasChild base check 1 ≡ rule4 document01 base check
     unfolding rule4
-    grown h = rw (marked, le-leb 1 (plusAt base 1) (omega arith), ne-eqb (plusAt base 1) 1 (λ e. omega arith), or-false)
+    grown h = rw (mark-holds, le-leb 1 (plusAt base 1) (omega arith), ne-eqb (plusAt base 1) 1 (λ e. omega arith), or-false)
 
 plus-at-requires : tie.Need-plus-at-requires
 plus-at-requires c κs = search needs
 
 returns : tie.Need-returns
-returns c = unmarked _ _ (λ e. omega (arith, c .if1 .taken))
+returns c = other-mark _ _ (λ e. omega (arith, c .if1 .taken))
 
 plus-at-requires-2 : tie.Need-plus-at-requires-2
 plus-at-requires-2 c κs = search needs

@@ -6,9 +6,8 @@ use borrow.Author.Needs.{needs}
 use Rattle.rules.specs.WhatTheIndexDoes.{rightLengths}
 use Rattle.rules.proofs.Choices.{was-yes}
 use Rattle.audit.specs.Kept.{Sized, FirstKept}
-use Rattle.audit.proofs.Says.{says-as, said-no, said-yes}
+use Rattle.audit.proofs.Says.{says-as, said-no, said-yes, refuted}
 use Rattle.audit.proofs.SoundKept.{sound-first}
-use Rattle.audit.proofs.Unsound.{unsound}
 use Rattle.audit.proofs.is_sound.Statement.{statement}
 use Rattle.audit.proofs.is_sound.Tie as tie
 
@@ -34,28 +33,28 @@ right-lengths-requires : tie.Need-right-lengths-requires
 right-lengths-requires c κs = search needs
 
 returns : tie.Need-returns
-returns c = unsound _ _ _ (λ e. said-no _ (says-as (c .before .right-lengths .ensures)) (c .if1 .taken) (sound-first _ _ _ e .lengths))
+returns c = refuted (λ e. said-no _ (says-as (c .before .right-lengths .ensures)) (c .if1 .taken) (sound-first _ _ _ e .lengths))
 
 plus-at-requires : tie.Need-plus-at-requires
 plus-at-requires c κs = search needs
 
 returns-2 : tie.Need-returns-2
-returns-2 c = unsound _ _ _ (λ e. omega (arith, sound-first _ _ _ e .sized .some))
+returns-2 c = refuted (λ e. omega (arith, sound-first _ _ _ e .sized .some))
 
 returns-3 : tie.Need-returns-3
-returns-3 c = unsound _ _ _ (λ e. omega (arith, sound-first _ _ _ e .sized .fits))
+returns-3 c = refuted (λ e. omega (arith, sound-first _ _ _ e .sized .fits))
 
 is-past-nought-requires : tie.Need-is-past-nought-requires
 is-past-nought-requires c κs = sized c
 
 returns-4 : tie.Need-returns-4
-returns-4 c = unsound _ _ _ (λ e. said-no _ (c .before .is-past-nought .ensures) (c .if4 .taken) (sound-first _ _ _ e .past))
+returns-4 c = refuted (λ e. said-no _ (c .before .is-past-nought .ensures) (c .if4 .taken) (sound-first _ _ _ e .past))
 
-are-rules-kept-short-requires : tie.Need-are-rules-kept-short-requires
-are-rules-kept-short-requires c κs = (first (c .before), c .if5 .taken)
+are-rules-kept-small-requires : tie.Need-are-rules-kept-small-requires
+are-rules-kept-small-requires c κs = (first (c .before), c .if5 .taken)
 
-are-rules-kept-long-requires : tie.Need-are-rules-kept-long-requires
-are-rules-kept-long-requires c κs = first (c .before)
+are-rules-kept-large-requires : tie.Need-are-rules-kept-large-requires
+are-rules-kept-large-requires c κs = first (c .before)
 
 returns-5 : tie.Need-returns-5
 returns-5 c = search needs
@@ -74,7 +73,7 @@ is-sound-spec =
     returns-3
     is-past-nought-requires
     returns-4
-    are-rules-kept-short-requires
-    are-rules-kept-long-requires
+    are-rules-kept-small-requires
+    are-rules-kept-large-requires
     returns-5
     returns-6)

@@ -1,20 +1,30 @@
 -- `walk` walks along the identifier. The loop's invariant: the walk along the rest, after the characters met, is the walk along
 -- the whole. The measure is the length of the rest. Assumes nothing.
 use mathlib.Core.Path.{_≡_, refl, ap}
-use mathlib.Core.List.{List, map}
-use Prim.Native.Nat.{ℕ, _+_, _≤_, _<_}
+use mathlib.Core.List.{List, _∷_, map}
+use Prim.Native.Nat.{ℕ, suc, _+_, _≤_, _<_}
 use native.Mathlib.Nat.{add-zero, add-suc, suc-add}
 use native.Mathlib.Numerals.{add-one}
 use native.Mathlib.Omega.{arith}
 use lib.ListN.{length, getD}
 use lib.IntN.{ℤ}
+use borrow.Author.Tests.{ne-eqb}
 use Rattle.rules.specs.WhatTheIndexDoes.{codeOf}
 use Rattle.rules.specs.Finding.{nextAt, walkAt}
 use Rattle.rules.proofs.Texts.{behind, first-and-rest, none-left}
 use Rattle.index.specs.Promised.{Reaches}
-use Rattle.index.proofs.Walks.{walk-stops, walk-goes-on}
 use Rattle.index.proofs.finding.walk.Statement.{statement}
 use Rattle.index.proofs.finding.walk.Tie as tie
+
+-- A label c from the cell s, which leads to t: the walk stops there, or goes on.
+module _ (base check : List ℤ) (s c : ℕ) (cs : List ℕ) {t : ℕ} (to : t ≡ nextAt base check s c) where
+  walk-stops : t ≡ 0 → walkAt base check s (c ∷ cs) ≡ record { cell = 0; met = 0 }
+  unfolding walkAt
+  walk-stops z = rw (← to, z)
+
+  walk-goes-on : 1 ≤ t → walkAt base check s (c ∷ cs) ≡ (let on = walkAt base check t cs in record { cell = on .cell; met = suc (on .met) })
+  unfolding walkAt
+  walk-goes-on h = rw (← to, ne-eqb t 0 (λ z. omega arith))
 
 -- The cell s is reached after n characters of key, and text is what is left of it: what the walk from there reaches is what the
 -- walk along all of key does.

@@ -1,10 +1,9 @@
--- `are_rules_kept_long` lends marks and notes for as many cells as arrays can have. Assumes nothing.
+-- `are_rules_kept_small` lends marks and notes for 4,096 cells. Assumes nothing.
 use native.Mathlib.Omega.{arith}
 use borrow.Author.Needs.{needs}
-use Rattle.rules.proofs.Lengths.{lengths-within}
 use Rattle.audit.proofs.Unmarked.{first-look}
-use Rattle.audit.proofs.are_rules_kept_long.Statement.{statement}
-use Rattle.audit.proofs.are_rules_kept_long.Tie as tie
+use Rattle.audit.proofs.are_rules_kept_small.Statement.{statement}
+use Rattle.audit.proofs.are_rules_kept_small.Tie as tie
 
 slice-aggregate-are-rules-kept : tie.Need-slice-aggregate-are-rules-kept
 slice-aggregate-are-rules-kept c = search needs
@@ -13,13 +12,13 @@ slice-aggregate-are-rules-kept-2 : tie.Need-slice-aggregate-are-rules-kept-2
 slice-aggregate-are-rules-kept-2 c = search needs
 
 are-rules-kept-requires : tie.Need-are-rules-kept-requires
-are-rules-kept-requires c κs = first-look (c .before .before .pre) 65536 (let f = c .before .before .pre in omega (arith, f .sized .fits, lengths-within _ _ (f .lengths) .1))
+are-rules-kept-requires c κs = first-look (c .before .before .pre .0) 4096 (omega arith)
 
 returns : tie.Need-returns
 returns c = search needs
 
-pub are-rules-kept-long-spec : {M : Type 1} → statement M
-are-rules-kept-long-spec =
+pub are-rules-kept-small-spec : {M : Type 1} → statement M
+are-rules-kept-small-spec =
     tie.close
     (tie.spec
     slice-aggregate-are-rules-kept
