@@ -62,7 +62,7 @@ fn are_rules_kept_large(base: &[i32], check: &[i32], size: usize) -> bool
     are_rules_kept(base, check, size, &mut marks, &mut notes)
 }
 
-// Rules 2 to 7, with nobody marked and no depth noted yet.
+// Rules 2 to 7, with marks and notes as they are before the first look at the cells.
 fn are_rules_kept(
     base: &[i32],
     check: &[i32],

@@ -36,6 +36,11 @@ pub other-side : (z : ℤ) → 1 ≤ minusOf z → plusOf z ≡ 0
 other-side (pos n) h = absurd (omega arith)
 other-side (negsuc n) h = refl
 
+-- A number above 0 is its one side.
+pub plus-is : (z : ℤ) {n : ℕ} → plusOf z ≡ n → 1 ≤ n → z ≡ pos n
+plus-is (pos m) e h = ap pos e
+plus-is (negsuc m) e h = absurd (omega arith)
+
 -- A number below 0 is minus its other side.
 pub minus-is : (z : ℤ) {n : ℕ} → minusOf z ≡ n → 1 ≤ n → z ≡ negative n
 minus-is z {n} e h = sides z (negative n) (other-side z (rw e h) ∙ sym (plus-negative n)) (e ∙ sym (minus-negative n))

@@ -12,6 +12,7 @@ use mir.Syntax.{w32, w64}
 use mir.Val.{Fits, SFits, toZ, ofZ}
 use mir.Facts.{toZ-ofZ, sfits-widen, toZ-pos}
 use Rattle.numbers.proofs.Cases.{same?}
+use Rattle.numbers.proofs.Laws.{plus-is}
 use Rattle.numbers.specs.Stored.{negative, plusOf, minusOf, greatestStored, Reads}
 
 -- ---- 0 or more
@@ -75,16 +76,12 @@ positive-fits n h = record { sfits = omega arith }
 
 -- ---- two stored numbers are compared by their bits
 
-plus-is : (x : ℤ) {n : ℕ} → 1 ≤ n → plusOf x ≡ n → x ≡ pos n
-plus-is (pos m) h e = ap pos e
-plus-is (negsuc m) h e = absurd (omega arith)
-
 module _ (x : ℤ) (n : ℕ) (fits : SFits w32 x) (low : 1 ≤ n) (high : n ≤ greatestStored) where
   bits-differ : plusOf x ≢ n → ofZ w32 x ≢ ofZ w32 (pos n)
   bits-differ d e = d (ap plusOf (sym (toZ-ofZ fits) ∙ ap (toZ w32) e ∙ toZ-ofZ (positive-fits n high)))
 
   pub same-bits : eqb (ofZ w32 x) (ofZ w32 (pos n)) ≡ eqb (plusOf x) n
   same-bits = ⊎-elim
-      (λ (e : plusOf x ≡ n). eq-eqb _ _ (ap (ofZ w32) (plus-is x low e)) ∙ sym (eq-eqb (plusOf x) n e))
+      (λ (e : plusOf x ≡ n). eq-eqb _ _ (ap (ofZ w32) (plus-is x e low)) ∙ sym (eq-eqb (plusOf x) n e))
       (λ (d : plusOf x ≢ n). ne-eqb _ _ (bits-differ d) ∙ sym (ne-eqb (plusOf x) n d))
       (same? (plusOf x) n)

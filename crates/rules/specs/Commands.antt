@@ -6,7 +6,7 @@ use mathlib.Core.List.{List}
 use lib.Dec.{leb, ltb}
 use Rattle.rules.specs.declared.Answer.{Answer}
 use Rattle.rules.specs.declared.Answer.the-variants.{Done, Key, Number, Damaged, Absent, NoRoom}
-use Rattle.rules.specs.Answers.{found, present}
+use Rattle.rules.specs.Answers.{found, foundOrAbsent, present}
 use Rattle.rules.specs.WhatTheIndexDoes.{Profile, isIdentifier, isRow}
 use Rattle.rules.specs.Table.{Table, lookup}
 use Rattle.rules.specs.Insertion.{inserted}
@@ -39,9 +39,9 @@ numberAllowed (find key) = true
 numberAllowed (compact n) = leb n 65535
 
 module _ (P : Profile) (last : ℕ) (t : Table) where
-  -- A refusal changes nothing.
-  abbrev pub refused : Answer → Outcome
-  refused a = record { answer = a; table = t }
+  -- A refusal, and an answer to find, leave the table as it is.
+  abbrev pub kept : Answer → Outcome
+  kept a = record { answer = a; table = t }
 
   -- PRESENT, ABSENT, NO ROOM or done, at the row that is held for the identifier (0 where it is not live).
   unfoldable pub carriedOut : Command → Outcome
@@ -49,15 +49,13 @@ module _ (P : Profile) (last : ℕ) (t : Table) where
       let held = lookup P (t .cells) key in
       let course = inserted P last t key n in
       let done : Outcome = record { answer = Done (course .count); table = course .table } in
-      let new = cond (course .fitted) done (refused NoRoom) in
-      cond (ltb 0 held) (refused (present held)) new
+      let new = cond (course .fitted) done (kept NoRoom) in
+      cond (ltb 0 held) (kept (present held)) new
   carriedOut (delete key) =
       let held = lookup P (t .cells) key in
       let done : Outcome = record { answer = found held; table = deleted P t key } in
-      cond (ltb 0 held) done (refused Absent)
-  carriedOut (find key) =
-      let held = lookup P (t .cells) key in
-      cond (ltb 0 held) (refused (found held)) (refused Absent)
+      cond (ltb 0 held) done (kept Absent)
+  carriedOut (find key) = kept (foundOrAbsent (lookup P (t .cells) key))
   carriedOut (compact n) =
       let moves = compacted P n t in
       record { answer = Done (moves .count); table = moves .table }
@@ -66,6 +64,6 @@ module _ (P : Profile) (last : ℕ) (t : Table) where
   unfoldable pub answered : Bool → Command → Outcome
   answered whole command =
       let done = carriedOut command in
-      let audited = cond whole done (refused Damaged) in
-      let numbered = cond (numberAllowed command) audited (refused Number) in
-      cond (keyAllowed P command) numbered (refused Key)
+      let audited = cond whole done (kept Damaged) in
+      let numbered = cond (numberAllowed command) audited (kept Number) in
+      cond (keyAllowed P command) numbered (kept Key)

@@ -10,6 +10,7 @@ use lib.IntN.{ℤ}
 use lib.Dec.{ltb}
 use borrow.Author.Tests.{ltb-true, ltb-false, leb-true}
 use Rattle.numbers.proofs.Cases.{some?, same-list?}
+use Rattle.rules.specs.Answers.{foundOrAbsent}
 use Rattle.rules.specs.WhatTheIndexDoes.{Profile, RoundTrip, isIdentifier, isRow, lastCell}
 use Rattle.rules.specs.Table.{Table, empty, lookup}
 use Rattle.rules.specs.ASoundTable.{sound}
@@ -80,9 +81,7 @@ module _ {P : Profile} (trip : RoundTrip P) (last : ℕ) where
     carried-together (delete key) k row = rw (a .rows key) (branch₂ (Together P last) (ltb 0 (rowIn es key))
         (λ h. record { answer = refl; left = deleted-agrees key (omega (arith, a .rows key, ltb-true 0 (rowIn es key) h)) })
         (λ h. record { answer = refl; left = a }))
-    carried-together (find key) k row = rw (a .rows key) (branch₂ (Together P last) (ltb 0 (rowIn es key))
-        (λ h. record { answer = refl; left = a })
-        (λ h. record { answer = refl; left = a }))
+    carried-together (find key) k row = record { answer = ap foundOrAbsent (a .rows key); left = a }
     carried-together (compact n) k row = record { answer = refl; left = compacted-agrees n }
 
     pub answered-together : (c : Command) → Together P last (answered P last t true c) (replied P (told P last t c) es c)

@@ -7,10 +7,11 @@ use mathlib.Core.List.{List, [], _∷_, map, reverse}
 use Prim.Native.Nat.{ℕ, _+_, _≤_}
 use native.Mathlib.Omega.{arith}
 use lib.IntN.{ℤ}
-use lib.Dec.{leb, ltb, eqb}
+use lib.Dec.{leb, eqb}
 use borrow.Author.Tests.{le-leb, leb-true, eq-eqb, eqb-true}
 use Rattle.numbers.specs.Stored.{plusAt, minusAt}
 use Rattle.numbers.proofs.Cases.{some?}
+use Rattle.rules.specs.Answers.{foundOrAbsent}
 use Rattle.rules.specs.WhatTheIndexDoes.{END, Profile, RoundTrip, coded, isIdentifier, isRow, labels, lastCell}
 use Rattle.rules.specs.Table.{Cells, next, walk, node, lookup}
 use Rattle.rules.specs.ASoundTable.{sizeAt, sound}
@@ -22,7 +23,7 @@ use Rattle.rules.specs.Calls.{findCall}
 use Rattle.rules.proofs.Choices.{branch, branch₂, both, join}
 use Rattle.tree.specs.Soundness.{Step, Tree}
 use Rattle.tree.specs.Renders.{Renders}
-use Rattle.tree.specs.ThePlainList.{rowIn, Told, Reply, heard, replied, Agrees}
+use Rattle.tree.specs.ThePlainList.{Told, Reply, heard, replied, Agrees}
 use Rattle.tree.proofs.Steps.{step-next, next-step, walk-node, lookup-row}
 use Rattle.tree.proofs.Trees.{held-leaf, based-pos, row-used, row-pos, step-used, step-far, walk-pos}
 use Rattle.tree.proofs.Identifiers.{path-labels, identifier-coded}
@@ -126,9 +127,8 @@ module _ (P : Profile) (base check : List ℤ) (e : sound P base check ≡ true)
   pub find-plain : {last : ℕ} {es : List Entry} → Agrees P last (readTable base check) es → (news : Told) (key : List ℕ) →
       findCall P base check key ≡ replied P news es (find key) .answer
   unfolding findCall replied heard keyAllowed numberAllowed readTable
-  find-plain {es = es} a news key = rw (rules-render P base check e .lengths) (branch₂ (λ x (y : Reply). x ≡ y .answer) (isIdentifier P key)
-      (λ k. rw (found-row key (identifier-coded P key k) ∙ a .rows key)
-      (branch₂ (λ x (y : Reply). x ≡ y .answer) (ltb 0 (rowIn es key)) (λ _. refl) (λ _. refl)))
+  find-plain a news key = rw (rules-render P base check e .lengths) (branch₂ (λ x (y : Reply). x ≡ y .answer) (isIdentifier P key)
+      (λ k. ap foundOrAbsent (found-row key (identifier-coded P key k) ∙ a .rows key))
       (λ _. refl))
 
   -- The table's own listing is such a list.

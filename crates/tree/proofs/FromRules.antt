@@ -11,7 +11,7 @@ use lib.IntN.{ℤ}
 use lib.Dec.{leb, eqb}
 use borrow.Author.Tests.{eq-eqb, ne-eqb, eqb-true, le-leb, leb-true, not-true}
 use Rattle.numbers.specs.Stored.{positive, plusAt, minusAt}
-use Rattle.numbers.proofs.Laws.{one-side, sides, other-side}
+use Rattle.numbers.proofs.Laws.{one-side, sides, other-side, plus-is}
 use Rattle.numbers.proofs.Cases.{lt-or-ge, same?, some?}
 use Rattle.rules.specs.WhatTheIndexDoes.{Profile, isRow}
 use Rattle.rules.specs.Table.{Cells, Table, free, used, node}
@@ -165,7 +165,7 @@ module _ {K : Kind} {P : Profile} {base check : List ℤ} (r : Ruled K P base ch
 
   size-element : getD base 0 (positive 0) ≡ baseOf t 0
   unfolding readTable baseOf
-  size-element = sides (getD base 0 (positive 0)) (positive (sizeAt base)) refl (one-side (getD base 0 (positive 0)) (r .bounded .some))
+  size-element = plus-is (getD base 0 (positive 0)) refl (r .bounded .some)
 
   cell-element : (i : ℕ) → 1 ≤ i → getD base i (positive 0) ≡ getD (renderBase (length base) t) i (positive 0)
   unfolding readTable
@@ -178,8 +178,7 @@ module _ {K : Kind} {P : Profile} {base check : List ℤ} (r : Ruled K P base ch
   base-element i = ⊎-elim (λ z. rw z (size-element ∙ sym (base-at t (ruled-sound .tree) (length base) long 0))) (cell-element i) (some? i)
 
   check-parent : (i : ℕ) → 1 ≤ T i .parent → getD check i (positive 0) ≡ positive (T i .parent)
-  check-parent i u = let v = used-parent (r .bounded) i u in
-      sides (getD check i (positive 0)) (positive (T i .parent)) (sym v) (one-side (getD check i (positive 0)) (rw (← v) u))
+  check-parent i u = plus-is (getD check i (positive 0)) (sym (used-parent (r .bounded) i u)) u
 
   check-unused : (i : ℕ) → used T i ≡ false → getD check i (positive 0) ≡ checkOf K P t i
   unfolding readTable

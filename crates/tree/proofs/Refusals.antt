@@ -30,7 +30,7 @@ module _ (P : Profile) (last : ℕ) (t : Table) where
   carried-same (insert key n) = branch Unchanged (ltb 0 (lookup P (t .cells) key)) (λ _ _. refl) (λ _. branch Unchanged (inserted P last t key n .fitted)
       (λ _ e. absurd (true≢false e)) (λ _ _. refl))
   carried-same (delete key) = branch Unchanged (ltb 0 (lookup P (t .cells) key)) (λ _ e. absurd (true≢false e)) (λ _ _. refl)
-  carried-same (find key) = branch Unchanged (ltb 0 (lookup P (t .cells) key)) (λ _ _. refl) (λ _ _. refl)
+  carried-same (find key) = λ _. refl
   carried-same (compact n) = λ e. absurd (true≢false e)
 
   pub refused-unchanged : (whole : Bool) (c : Command) → isDone (answered P last t whole c .answer) ≡ false → answered P last t whole c .table ≡ t

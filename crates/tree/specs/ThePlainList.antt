@@ -7,7 +7,7 @@ use mathlib.Core.List.{List, [], _∷_}
 use lib.Dec.{ltb, eqb}
 use Rattle.rules.specs.declared.Answer.{Answer}
 use Rattle.rules.specs.declared.Answer.the-variants.{Done, Key, Number, Absent, NoRoom}
-use Rattle.rules.specs.Answers.{found, present}
+use Rattle.rules.specs.Answers.{found, foundOrAbsent, present}
 use Rattle.rules.specs.WhatTheIndexDoes.{Profile}
 use Rattle.rules.specs.Table.{Table, lookup}
 use Rattle.rules.specs.Insertion.{inserted}
@@ -70,9 +70,7 @@ module _ (P : Profile) (news : Told) (es : List Entry) where
       let held = rowIn es key in
       let done : Reply = record { answer = found held; list = without es key } in
       cond (ltb 0 held) done (kept Absent)
-  heard (find key) =
-      let held = rowIn es key in
-      cond (ltb 0 held) (kept (found held)) (kept Absent)
+  heard (find key) = kept (foundOrAbsent (rowIn es key))
   heard (compact n) = kept (Done (news .count))
 
   -- KEY, NUMBER, then what the command itself meets.
