@@ -14,15 +14,11 @@ use Rattle.numbers.specs.Stored.{positive, negative, plusOf, minusOf, plusAt, m
 use Rattle.numbers.proofs.Laws.{plus-negative, minus-negative}
 use Rattle.numbers.proofs.Cases.{lt-or-ge, same?, some?}
 use Rattle.rules.specs.WhatTheIndexDoes.{Profile}
-use Rattle.rules.specs.Table.{Content, Cells, Table, used}
+use Rattle.rules.specs.Table.{Content, Table, used}
 use Rattle.rules.specs.Rendering.{Kind, baseHolds, baseOf, checkOf, elements, renderBase, renderCheck, readCells, readTable}
-use Rattle.tree.specs.Soundness.{Tree}
+use Rattle.tree.specs.Renders.{Tidy}
 use Rattle.tree.proofs.UsedCells.{parent-used, parentless-unused, unused-other}
-use Rattle.tree.proofs.Trees.{held-leaf, row-used, past-unused, past-free}
-
-module _ {P : Profile} {T : Cells} {size : ℕ} (w : Tree P T size) where
-  leaf-baseless : (i : ℕ) → 1 ≤ T i .row → T i .base ≡ 0
-  leaf-baseless i h = held-leaf (w .sits i (row-used w i h) .held) h .1
+use Rattle.tree.proofs.TidyTables.{tidy-past, tidy-past-free}
 
 -- ---- what the rendering writes
 
@@ -139,27 +135,27 @@ module _ (base check : List ℤ) (i : ℕ) where
   unfolding readCells
   read-parent h = rw (ne-eqb i 0 (λ e. omega arith), ne-eqb i 1 (λ e. omega arith))
 
--- ---- a sound table's rendering, read at any number: past the end both are 0
+-- ---- a tidy table's rendering, read at any number: past the end both are 0
 
-module _ {P : Profile} (t : Table) (w : Tree P (t .cells) (t .size)) (n : ℕ) (long : t .size < n) where
+module _ (t : Table) (w : Tidy t) (n : ℕ) (long : t .size < n) where
   pub base-at : (i : ℕ) → getD (renderBase n t) i (positive 0) ≡ baseOf t i
   unfolding baseHolds
   base-at i = ⊎-elim
       (base-inside t n i)
-      (λ h. base-beyond t n i h ∙ sym (base-held t i (omega arith) ∙ ap baseHolds (past-free w i (omega arith))))
+      (λ h. base-beyond t n i h ∙ sym (base-held t i (omega arith) ∙ ap baseHolds (tidy-past-free w i (omega arith))))
       (lt-or-ge i n)
 
   pub base-plus : (i : ℕ) → 1 ≤ i → plusAt (renderBase n t) i ≡ t .cells i .base
-  base-plus i h = ap plusOf (base-at i ∙ base-held t i h) ∙ plus-holds (t .cells i) (leaf-baseless w i)
+  base-plus i h = ap plusOf (base-at i ∙ base-held t i h) ∙ plus-holds (t .cells i) (w .one-kind i)
 
   pub base-minus : (i : ℕ) → 1 ≤ i → minusAt (renderBase n t) i ≡ t .cells i .row
   base-minus i h = ap minusOf (base-at i ∙ base-held t i h) ∙ minus-holds (t .cells i)
 
-module _ (K : Kind) {P : Profile} (t : Table) (w : Tree P (t .cells) (t .size)) (n : ℕ) (long : t .size < n) where
+module _ (K : Kind) (P : Profile) (t : Table) (w : Tidy t) (n : ℕ) (long : t .size < n) where
   pub check-at : (i : ℕ) → getD (renderCheck K P n t) i (positive 0) ≡ checkOf K P t i
   check-at i = ⊎-elim
       (check-inside K P t n i)
-      (λ h. check-beyond K P t n i h ∙ sym (check-past K P t i (past-unused w i (omega arith)) (omega arith)))
+      (λ h. check-beyond K P t n i h ∙ sym (check-past K P t i (tidy-past w i (omega arith)) (omega arith)))
       (lt-or-ge i n)
 
   check-plus : (i : ℕ) → i ≢ 1 → plusAt (renderCheck K P n t) i ≡ t .cells i .parent

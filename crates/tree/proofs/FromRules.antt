@@ -23,7 +23,7 @@ use Rattle.rules.proofs.Ranges.{within-is}
 use Rattle.tree.specs.Soundness.{Held, aLeaf, anInner, Fruit, Bare, Sits, Tree, Sound}
 use Rattle.tree.specs.Renders.{Renders}
 use Rattle.tree.proofs.UsedCells.{parentless-unused, by-use}
-use Rattle.tree.proofs.Trees.{row-low, held-inner, held-end, used-pos, row-used, one-path}
+use Rattle.tree.proofs.Trees.{row-low, held-inner, held-end, used-pos, row-used, tree-tidy, one-path}
 use Rattle.tree.proofs.Elements.{check-root, check-used, check-link, check-past, base-length, check-length}
 use Rattle.tree.proofs.Elements.{read-base, read-row, base-at, base-plus, base-minus, check-at}
 use Rattle.tree.proofs.Climbs.{PathTo, path-home, home-path}
@@ -170,12 +170,12 @@ module _ {K : Kind} {P : Profile} {base check : List ℤ} (r : Ruled K P base ch
   cell-element : (i : ℕ) → 1 ≤ i → getD base i (positive 0) ≡ getD (renderBase (length base) t) i (positive 0)
   unfolding readTable
   cell-element i h = sides (getD base i (positive 0)) _
-      (sym (base-plus t (ruled-sound .tree) (length base) long i h ∙ read-base base check i h))
-      (sym (base-minus t (ruled-sound .tree) (length base) long i h ∙ read-row base check i h))
+      (sym (base-plus t (tree-tidy (ruled-sound .tree)) (length base) long i h ∙ read-base base check i h))
+      (sym (base-minus t (tree-tidy (ruled-sound .tree)) (length base) long i h ∙ read-row base check i h))
 
   base-element : (i : ℕ) → getD base i (positive 0) ≡ getD (renderBase (length base) t) i (positive 0)
   unfolding readTable
-  base-element i = ⊎-elim (λ z. rw z (size-element ∙ sym (base-at t (ruled-sound .tree) (length base) long 0))) (cell-element i) (some? i)
+  base-element i = ⊎-elim (λ z. rw z (size-element ∙ sym (base-at t (tree-tidy (ruled-sound .tree)) (length base) long 0))) (cell-element i) (some? i)
 
   check-parent : (i : ℕ) → 1 ≤ T i .parent → getD check i (positive 0) ≡ positive (T i .parent)
   check-parent i u = plus-is (getD check i (positive 0)) (sym (used-parent (r .bounded) i u)) u
@@ -202,5 +202,5 @@ module _ {K : Kind} {P : Profile} {base check : List ℤ} (r : Ruled K P base ch
     fits = r .bounded .fits;
     base-is = ext-getD (positive 0) base _ (sym (base-length t (length base))) (λ i h. base-element i);
     check-is = ext-getD (positive 0) check _ (sym (lengths-same base check (r .bounded .lengths)) ∙ sym (check-length K P t (length base)))
-        (λ i h. check-element i ∙ sym (check-at K t (ruled-sound .tree) (length base) long i));
+        (λ i h. check-element i ∙ sym (check-at K P t (tree-tidy (ruled-sound .tree)) (length base) long i));
   }

@@ -2,6 +2,7 @@
 -- Steps, walks and paths.
 pub mod Steps
 pub mod UsedCells
+pub mod TidyTables
 pub mod Trees
 -- Placement.
 pub mod Placement

@@ -2,19 +2,20 @@
 -- the program that makes them. Assumes nothing.
 use mathlib.Core.Path.{_≡_, refl, sym, ap, _∙_, fun-ext}
 use mathlib.Core.Logic.{_≢_, _⊎_, inl, inr, ⊎-elim}
-use mathlib.Core.Bool.{Bool, cond, _&&_, and-false}
+use mathlib.Core.Bool.{true, false, cond, _&&_, and-false}
 use Prim.Native.Nat.{ℕ, zero, suc, _+_, _-_, _≤_}
 use native.Mathlib.Omega.{arith}
 use lib.Dec.{leb, eqb}
 use borrow.Author.Tests.{le-leb, lt-leb, eq-eqb, ne-eqb, eqb-true, eqb-false}
 use Rattle.numbers.proofs.Cases.{lt-or-ge, same?}
 use Rattle.rules.specs.WhatTheIndexDoes.{Profile}
-use Rattle.rules.specs.Table.{Content, Cells, free}
+use Rattle.rules.specs.Table.{Content, Cells, free, next, childCodes}
 use Rattle.rules.specs.Insertion.{renamed, relocate}
-use Rattle.rules.proofs.Choices.{branch}
-use Rattle.tree.specs.Soundness.{Tree}
+use Rattle.rules.proofs.Choices.{branch, not-zero}
+use Rattle.tree.specs.Soundness.{Step, Tree}
 use Rattle.tree.specs.Moved.{Fit}
 use Rattle.tree.specs.MovingInTurn.{under, hop, hops, rebase, inTurn}
+use Rattle.tree.proofs.Steps.{step-next, next-step}
 use Rattle.tree.proofs.Relocation.{M, ρ, Kept, s-pos, s-alone, child-far, child-near, to-child, to-other, to-place, place-clear, used-kept, parent-kept, moved-at, moved-from, to-own, s-moved}
 
 module _ (H : Cells) (t u : ℕ) where
@@ -203,17 +204,24 @@ module _ {P : Profile} {T : Cells} {size : ℕ} (w : Tree P T size) {s b q : ℕ
 
   -- ---- the loop
 
-  abbrev taken : ℕ → Bool
-  taken c = eqb (T (b + c) .parent) s
+  -- A label leads nowhere from s, or to a child.
+  not-child : (c : ℕ) → eqb (next T s c) 0 ≡ true → T (b + c) .parent ≢ s
+  not-child c z e =
+      let p : Step T s c (b + c) = record { based = rw (m .held) (m .old); at = rw (m .held) refl; back = e } in
+      omega (arith, step-next T p, eqb-true (next T s c) 0 z, m .old)
 
-  pub hops-midway : (k : ℕ) → Midway k (hops taken T b q k)
-  unfolding hops
+  is-child : (c : ℕ) → eqb (next T s c) 0 ≡ false → T (b + c) .parent ≡ s
+  is-child c f = let p = next-step T (not-zero (next T s c) f) in rw (p .at, m .held) at (p .back)
+
+  pub hops-midway : (k : ℕ) → Midway k (hops T b q (childCodes T s k))
+  unfolding hops childCodes
   hops-midway zero = start
-  hops-midway (suc k) = branch (Midway (suc k)) (taken (suc k)) (λ e. step k (hops-midway k) (eqb-true _ _ e)) (λ e. skip k (hops-midway k) (eqb-false _ _ e))
+  hops-midway (suc k) = branch (λ cs. Midway (suc k) (hops T b q cs)) (eqb (next T s (suc k)) 0)
+      (λ e. skip k (hops-midway k) (not-child (suc k) e)) (λ e. step k (hops-midway k) (is-child (suc k) e))
 
   -- The cells after the last code.
   abbrev last : Cells
-  last = hops taken T b q (P .greatest)
+  last = hops T b q (childCodes T s (P .greatest))
 
   last-midway : Midway (P .greatest) last
   last-midway = hops-midway (P .greatest)

@@ -3,13 +3,13 @@ use mathlib.Core.Path.{_≡_, refl, sym, ap, _∙_}
 use mathlib.Core.Logic.{_≢_, _⊎_, inl, inr, ⊎-elim}
 use mathlib.Core.Bool.{cond}
 use mathlib.Core.List.{List, [], _∷_}
-use Prim.Native.Nat.{ℕ, _+_, _-_, _≤_, _<_}
+use Prim.Native.Nat.{ℕ, zero, suc, _+_, _-_, _≤_, _<_}
 use native.Mathlib.Omega.{arith}
 use lib.Dec.{eqb}
 use borrow.Author.Tests.{eq-eqb, ne-eqb}
 use Rattle.numbers.proofs.Cases.{same?, some?}
 use Rattle.rules.specs.WhatTheIndexDoes.{Profile}
-use Rattle.rules.specs.Table.{Cells, free, next, node}
+use Rattle.rules.specs.Table.{Cells, free, next, node, childCodes}
 use Rattle.rules.specs.Insertion.{to, renamed, moved}
 use Rattle.tree.specs.Soundness.{Step, rowAt, Tree}
 use Rattle.tree.specs.Moved.{Fit}
@@ -218,3 +218,16 @@ module _ {P : Profile} {T : Cells} {size : ℕ} (w : Tree P T size) {s b q : ℕ
       let g : Kept (q + c) = (λ e. d (rw (let z : b + c ≡ q + c - q + b = omega arith in z) e)) in
       let n : T (q + c) .parent ≢ s = (λ e. omega (arith, s-pos)) in
       ap (λ x. x .parent) (rw (to-other (q + c) n) at (moved-at (q + c) g)) ∙ ap ρ z ∙ to-zero
+
+  -- ---- the children of s keep their codes
+
+  codes-same : (c : ℕ) → eqb (next M s c) 0 ≡ eqb (next T s c) 0
+  codes-same c = rw (rw s-stays at (next-moved s c (based-kept s s-based))) (⊎-elim
+      (λ z. ap (λ (x : ℕ). eqb x 0) (ap ρ z ∙ to-zero ∙ sym z))
+      (λ h. ne-eqb (ρ (next T s c)) 0 (λ e. omega (arith, to-pos (next T s c) h)) ∙ sym (ne-eqb (next T s c) 0 (λ e. omega arith)))
+      (some? (next T s c)))
+
+  pub codes-moved : (k : ℕ) → childCodes M s k ≡ childCodes T s k
+  unfolding childCodes
+  codes-moved zero = refl
+  codes-moved (suc k) = rw (codes-same (suc k), codes-moved k)

@@ -14,6 +14,7 @@ use Rattle.rules.specs.Rendering.{Kind, chained, readTable}
 use Rattle.rules.specs.PlainMethod.{plain, plainRule2, plainRule3, plainSound}
 use Rattle.rules.proofs.Choices.{both, join}
 use Rattle.tree.specs.Renders.{Renders}
+use Rattle.tree.proofs.Trees.{tree-tidy}
 use Rattle.tree.proofs.Elements.{read-rendered}
 use Rattle.tree.proofs.ReadTests.{holds-is, Bounded, first-rule, rule-first, Vacant}
 use Rattle.tree.proofs.FreeCells.{rules-vacant, vacant-rule2, vacant-rule3, plain-vacant, vacant-plain2, vacant-plain3}
@@ -21,7 +22,7 @@ use Rattle.tree.proofs.FromRules.{ruled-render}
 use Rattle.tree.proofs.ToRules.{rendered-long, render-ruled, render-home}
 
 pub one-table : {K : Kind} {P : Profile} {base check : List ℤ} (t : Table) → Renders K P base check t → t ≡ readTable base check
-one-table {K} {base = base} t r = sym (ap₂ readTable (r .base-is) (r .check-is) ∙ read-rendered K t (r .table .tree) (length base) (rendered-long r))
+one-table {K} {P} {base} t r = sym (ap₂ readTable (r .base-is) (r .check-is) ∙ read-rendered K P t (tree-tidy (r .table .tree)) (length base) (rendered-long r))
 
 module _ (P : Profile) (base check : List ℤ) where
   -- ---- rules 1 and 4 to 7 are those of every kind; a kind's own stand between them

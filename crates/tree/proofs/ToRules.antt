@@ -22,7 +22,8 @@ use Rattle.rules.proofs.Ranges.{inside}
 use Rattle.tree.specs.Soundness.{Held, aLeaf, anInner, Fruit, Tree, Deep}
 use Rattle.tree.specs.Renders.{Renders}
 use Rattle.tree.proofs.UsedCells.{is-used, other-parent, unused-other, unused-parent}
-use Rattle.tree.proofs.Trees.{past-unused, used-pos, based-used, no-loop, past-free}
+use Rattle.tree.proofs.Trees.{past-unused, used-pos, based-used, no-loop, tree-tidy}
+use Rattle.tree.proofs.TidyTables.{tidy-past-free}
 use Rattle.tree.proofs.Elements.{check-root, check-link, check-past, check-at}
 use Rattle.tree.proofs.Climbs.{all-within, root-home, path-home, home-path}
 use Rattle.tree.proofs.ReadTests.{is-holds, free-element, Bounded, Vacant, header, Ruled}
@@ -52,7 +53,7 @@ module _ {K : Kind} {P : Profile} {base check : List ℤ} where
     deep = r .table .deep
 
     check-element : (i : ℕ) → getD check i (positive 0) ≡ checkOf K P t i
-    check-element i = ap (λ xs. getD xs i (positive 0)) (r .check-is) ∙ check-at K t (r .table .tree) (length base) (rendered-long r) i
+    check-element i = ap (λ xs. getD xs i (positive 0)) (r .check-is) ∙ check-at K P t (tree-tidy (r .table .tree)) (length base) (rendered-long r) i
 
     -- ---- rules 1 to 4
 
@@ -62,7 +63,7 @@ module _ {K : Kind} {P : Profile} {base check : List ℤ} where
       lengths = r .lengths;
       some = tree .some;
       fits = r .fits;
-      past = λ i h. (free-element base check i (omega arith) (past-free tree i h), check-element i ∙ check-past K P t i (past-unused tree i h) h);
+      past = λ i h. (free-element base check i (omega arith) (tidy-past-free (tree-tidy tree) i h), check-element i ∙ check-past K P t i (past-unused tree i h) h);
     }
 
     vacant : Vacant K base check

@@ -14,8 +14,10 @@ use Rattle.rules.specs.WhatTheIndexDoes.{Profile, isRow}
 use Rattle.rules.specs.Table.{Content, Cells, free, used, next, walk, node}
 use Rattle.rules.proofs.Choices.{both}
 use Rattle.tree.specs.Soundness.{Step, Held, aLeaf, anInner, Fruit, Bare, Tree}
+use Rattle.tree.specs.Renders.{Tidy}
 use Rattle.tree.proofs.Steps.{parent-cell, base-cell, step-next, next-step, last-step, walk-node}
-use Rattle.tree.proofs.UsedCells.{is-used, parentless-unused, by-use}
+use Rattle.tree.proofs.UsedCells.{is-used, by-use}
+use Rattle.tree.proofs.TidyTables.{tidy-past}
 
 -- ---- what a cell holds
 
@@ -51,13 +53,6 @@ fruit-whole T x c n f u d h k = ⊎-elim (λ e. (c, rw e n)) (λ e. f u e h k) (
 module _ {P : Profile} {T : Cells} {size : ℕ} (w : Tree P T size) where
   -- ---- cells
 
-  -- Past the size no cell holds anything.
-  pub past-free : (t : ℕ) → size < t → T t ≡ free
-  past-free t h = w .blank t (λ e. omega (arith, w .some)) (⊎-elim (λ z. z) (λ u. absurd (omega (arith, w .inside t u))) (some? (T t .parent)))
-
-  pub past-unused : (t : ℕ) → size < t → used T t ≡ false
-  past-unused t h = parentless-unused T t (λ e. omega (arith, w .some)) (ap (λ x. x .parent) (past-free t h))
-
   pub zero-parent : T 0 .parent ≡ 0
   zero-parent = ap (λ x. x .parent) (w .nowhere)
 
@@ -79,6 +74,19 @@ module _ {P : Profile} {T : Cells} {size : ℕ} (w : Tree P T size) where
 
   pub row-pos : (t : ℕ) → 1 ≤ T t .row → 1 ≤ t
   row-pos t h = used-pos t (row-used t h)
+
+  pub tree-tidy : Tidy (record { cells = T; size = size })
+  tree-tidy = record {
+    nowhere = w .nowhere;
+    root-parent = w .root-parent;
+    blank = w .blank;
+    some = w .some;
+    inside = w .inside;
+    one-kind = λ t h. held-leaf (w .sits t (row-used t h) .held) h .1;
+  }
+
+  pub past-unused : (t : ℕ) → size < t → used T t ≡ false
+  past-unused = tidy-past tree-tidy
 
   -- An inner cell has no row.
   pub based-row : (s : ℕ) → 1 ≤ T s .base → T s .row ≡ 0

@@ -1,0 +1,18 @@
+-- What a tidy table holds past its size: nothing. Assumes nothing.
+use mathlib.Core.Path.{_≡_, ap}
+use mathlib.Core.Logic.{⊎-elim}
+use mathlib.Core.Bool.{false}
+use Prim.Native.Nat.{ℕ, _<_}
+use native.Mathlib.Omega.{arith}
+use Rattle.numbers.proofs.Cases.{some?}
+use Rattle.rules.specs.Table.{Table, free, used}
+use Rattle.tree.specs.Renders.{Tidy}
+use Rattle.tree.proofs.UsedCells.{parentless-unused}
+
+module _ {t : Table} (w : Tidy t) where
+  pub tidy-past-free : (u : ℕ) → t .size < u → t .cells u ≡ free
+  tidy-past-free u h = w .blank u (λ e. omega (arith, w .some))
+      (⊎-elim (λ z. z) (λ p. absurd (omega (arith, w .inside u p))) (some? (t .cells u .parent)))
+
+  pub tidy-past : (u : ℕ) → t .size < u → used (t .cells) u ≡ false
+  tidy-past u h = parentless-unused (t .cells) u (λ e. omega (arith, w .some)) (ap (λ x. x .parent) (tidy-past-free u h))
