@@ -9,15 +9,16 @@ ghost use mathlib.Core.Path.{_≡_};
 ghost use mathlib.Core.List.{map};
 ghost use lib.Dec.{leb};
 ghost use lib.ListN.{length, getD};
+ghost use Rattle.numbers.specs.Stored.{Reads};
 ghost use Rattle.rules.specs.WhatTheIndexDoes.{GREATEST, codeOf, document01};
 ghost use Rattle.rules.specs.Answers.{foundOrAbsent};
-ghost use Rattle.rules.specs.Finding.{nextAt, walkAt, rowOf, rowFound};
+ghost use Rattle.rules.specs.Finding.{nextAt, walkAt, leafAfter, rowOf, rowFound};
 ghost use Rattle.index.specs.Promised.{Reaches};
 
-// Where a walk ended, cell 0 where a character led nowhere, and how many characters were found.
-struct Reached {
-    cell: Cell,
-    met: usize,
+// Where a walk stopped, and how many characters were found.
+pub struct Reached {
+    pub cell: Cell,
+    pub met: usize,
 }
 
 // The row of an identifier, or ABSENT.
@@ -26,12 +27,16 @@ pub fn row(base: &[i32], check: &[i32], key: &[u8]) -> Answer
     ensures { λ r. ⌜ r ≡ foundOrAbsent (rowFound (now (base .entry)) (now (check .entry)) document01 (now (key .entry))) ⌝ }
 {
     let reached = walk(base, check, key);
-    let leaf = next(base, check, reached.cell, Alphabet::END);
-    leaf_row(base, leaf)
+    let n = held(base, check, key.len(), reached);
+    if n == 0 {
+        Answer::Absent
+    } else {
+        Answer::Found(Row(n as u32))
+    }
 }
 
 // The walk from the root along an identifier's characters.
-fn walk(base: &[i32], check: &[i32], key: &[u8]) -> Reached
+pub fn walk(base: &[i32], check: &[i32], key: &[u8]) -> Reached
     requires { ⌜ length (now base) ≤ 65536 ⌝ }
     ensures { λ r. ⌜ Reaches (walkAt (now (base .entry)) (now (check .entry)) 1 (map codeOf (now (key .entry)))) (r .cell .0) (r .met) ⌝ }
 {
@@ -41,13 +46,25 @@ fn walk(base: &[i32], check: &[i32], key: &[u8]) -> Reached
     while 0 < rest.len() {
         let t = step(base, check, rest, cell);
         if t.0 == 0 {
-            return Reached { cell: t, met };
+            return Reached { cell, met };
         }
         rest = &rest[1..];
         cell = t;
         met += 1;
     }
     Reached { cell, met }
+}
+
+// The row after the end mark, where a walk along so many characters found them all; otherwise 0.
+pub fn held(base: &[i32], check: &[i32], characters: usize, reached: Reached) -> usize
+    requires { ⌜ length (now base) ≤ 65536 ⌝ }
+    ensures { λ r. ⌜ Reads (rowOf (now (base .entry)) (leafAfter (now (base .entry)) (now (check .entry)) characters (record { cell = reached .cell .0; met = reached .met }))) r ⌝ }
+{
+    if reached.met != characters {
+        return 0;
+    }
+    let leaf = next(base, check, reached.cell, Alphabet::END);
+    row_of(base, leaf)
 }
 
 // The cell to which the first character of the rest leads from the cell reached, or cell 0.
@@ -91,18 +108,14 @@ fn is_past(base: &[i32], t: Cell) -> bool
     base.len() <= t.0
 }
 
-// What the cell after the end mark answers.
-fn leaf_row(base: &[i32], leaf: Cell) -> Answer
-    ensures { λ r. ⌜ r ≡ foundOrAbsent (rowOf (now (base .entry)) (leaf .0)) ⌝ }
+// The row that a cell holds, or 0.
+fn row_of(base: &[i32], leaf: Cell) -> usize
+    ensures { λ r. ⌜ Reads (rowOf (now (base .entry)) (leaf .0)) r ⌝ }
 {
     let at = leaf.0;
     if at == 0 {
-        return Answer::Absent;
+        return 0;
     }
     let n = numbers::minus_at(base, at);
-    if rules::is_row(n) {
-        Answer::Found(Row(n as u32))
-    } else {
-        Answer::Absent
-    }
+    if rules::is_row(n) { n } else { 0 }
 }

@@ -1,7 +1,7 @@
 -- Choices by a test, and two tests together. Assumes nothing.
 use mathlib.Core.Path.{_≡_, refl, sym, _∙_}
 use mathlib.Core.Logic.{_≢_, _⊎_, inl, inr}
-use mathlib.Core.Bool.{Bool, true, false, cond, not, _&&_, _||_, true≢false}
+use mathlib.Core.Bool.{Bool, true, false, cond, not, _&&_, _||_, true≢false, and-false}
 use Prim.Native.Nat.{ℕ, _≤_}
 use native.Mathlib.Omega.{arith}
 use lib.Dec.{eqb}
@@ -46,6 +46,11 @@ both false t e = absurd (true≢false (sym e))
 
 pub join : {s t : Bool} → s ≡ true → t ≡ true → (s && t) ≡ true
 join e f = rw e f
+
+-- Two tests come to the second, if the first passes wherever the second does.
+pub join-second : (s t : Bool) → (t ≡ true → s ≡ true) → (s && t) ≡ t
+join-second s true h = join (h refl) refl
+join-second s false h = and-false s
 
 pub either : (s t : Bool) → (s || t) ≡ true → (s ≡ true) ⊎ (t ≡ true)
 either true t e = inl refl

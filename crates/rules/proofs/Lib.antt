@@ -4,3 +4,4 @@ pub mod Ranges
 pub mod Lengths
 pub mod Texts
 pub mod Codes
+pub mod Walks

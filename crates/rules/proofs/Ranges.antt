@@ -88,6 +88,15 @@ module _ (test : ℕ → Bool) where
   first-here zero q e = refl
   first-here (suc n) q e = rw e
 
+  pub first-is : (n q r : ℕ) → q ≤ r → r ≤ q + n → test r ≡ true → ((s : ℕ) → q ≤ s → s < r → test s ≡ false) →
+      firstFrom test n q ≡ r
+  unfolding firstFrom
+  first-is zero q r low high e f = omega arith
+  first-is (suc n) q r low high e f = ⊎-elim
+      (λ v. first-here (suc n) q (ap test v ∙ e) ∙ v)
+      (λ l. rw (f q (omega arith) l) (first-is n (suc q) r l (omega arith) e (λ s h. f s (omega arith))))
+      (eq-or-lt-of-le low)
+
   -- How many failures are allowed does not matter, where the last number tried passes.
   first-any : (n m q : ℕ) → test (q + n) ≡ true → test (q + m) ≡ true → firstFrom test n q ≡ firstFrom test m q
   first-any n m q p r = le-antisymm

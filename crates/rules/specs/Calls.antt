@@ -14,7 +14,7 @@ use Rattle.rules.specs.WhatTheIndexDoes.{Profile, isIdentifier, rightLen
 use Rattle.rules.specs.ASoundTable.{freshBase, freshCheck}
 use Rattle.rules.specs.Finding.{rowFound}
 use Rattle.rules.specs.Listing.{listing}
-use Rattle.rules.specs.Commands.{Command, insert, delete, find, compact, Outcome, answered}
+use Rattle.rules.specs.Commands.{Command, insert, delete, find, compact, Outcome, carriedOut, answered}
 use Rattle.rules.specs.Rendering.{Kind, renderBase, renderCheck, readCells, readTable}
 use Rattle.rules.specs.ARun.{sheetLines, answeredLines}
 
@@ -60,6 +60,10 @@ module _ (K : Kind) (P : Profile) (base check : List ℤ) where
       let n = length base in
       let done : Edited = record { answer = o .answer; base = renderBase n (o .table); check = renderCheck K P n (o .table) } in
       cond (isDone (o .answer)) done (unchanged base check (o .answer))
+
+  -- On a table known to be sound, for an identifier and a number that are allowed: what the command itself meets.
+  unfoldable pub soundEdit : Command → Edited
+  soundEdit command = stored (carriedOut P (lastCell base) (readTable base check) command)
 
   -- SIZE, then KEY, NUMBER, DAMAGED and what the command itself meets.
   unfoldable pub editCall : Command → Edited

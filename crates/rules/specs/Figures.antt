@@ -14,9 +14,9 @@ use Rattle.rules.specs.Answers.{found}
 use Rattle.rules.specs.WhatTheIndexDoes.{document01, codeOf, characterOf, coded, isIdentifier, labels, isRow, rightLengths}
 use Rattle.rules.specs.Table.{update, used, largestUsed, next, walk, node, lookup, childCodes, childless}
 use Rattle.rules.specs.ASoundTable.{holds, usedAt, freeAt, nextFreeAt, hasChild, codeAt, home, others, rule1, rule2, rule3, rule4, rule5, rule6, rule7, sound, freshBase, freshCheck}
-use Rattle.rules.specs.Finding.{leads, nextAt, walkAt, leafAt, rowOf, rowFound}
+use Rattle.rules.specs.Finding.{leads, nextAt, walkAt, leafAfter, leafAt, rowOf, rowFound}
 use Rattle.rules.specs.Placement.{leastOf, greatestOf, opens, placed, fits, sought}
-use Rattle.rules.specs.Insertion.{to, renamed, moved, relocate, grow, extend, insertFrom, inserted}
+use Rattle.rules.specs.Insertion.{to, renamed, moved, relocate, grow, collide, extend, insertFrom, inserted}
 use Rattle.rules.specs.DeletionAndCompaction.{trimmed, prune, compactionStep, compactionSteps, deleted, compacted}
 use Rattle.rules.specs.Listing.{listed, spelt, tried, visited, entries, digit, hex, hexes, lineOf, linesOf, listing}
 use Rattle.rules.specs.Commands.{Command, insert, delete, compact, keyAllowed, numberAllowed, carriedOut, answered}
@@ -52,9 +52,9 @@ unfolding
     within eachTo someTo firstFrom codeOf characterOf coded isIdentifier labels isRow rightLengths
     update used largestUsed next walk node lookup childCodes childless
     holds usedAt freeAt nextFreeAt hasChild codeAt home others rule1 rule2 rule3 rule4 rule5 rule6 rule7 sound freshBase freshCheck
-    leads nextAt walkAt leafAt rowOf rowFound
+    leads nextAt walkAt leafAfter leafAt rowOf rowFound
     leastOf greatestOf opens placed fits sought
-    to renamed moved relocate grow extend insertFrom inserted
+    to renamed moved relocate grow collide extend insertFrom inserted
     trimmed prune compactionStep compactionSteps deleted compacted
     listed spelt tried visited entries digit hex hexes lineOf linesOf listing
     keyAllowed numberAllowed carriedOut answered

@@ -2,12 +2,13 @@
 use Prim.Native.Nat.{ℕ, suc, _+_}
 use mathlib.Core.Bool.{Bool, cond, _&&_}
 use mathlib.Core.List.{List, [], _∷_, map}
+use lib.ListN.{length}
 use lib.IntN.{ℤ}
 use lib.Dec.{leb, eqb}
 use Rattle.numbers.specs.Stored.{plusAt, minusAt}
 use Rattle.rules.specs.WhatTheIndexDoes.{END, Profile, isRow, lastCell}
 
--- Where a walk ended, and how many labels led on.
+-- Where a walk stopped, and how many labels led on.
 pub record Reached : Type 0 where
   pub cell : ℕ
   pub met : ℕ
@@ -29,18 +30,22 @@ module _ (base check : List ℤ) where
   unfoldable pub nextAt : ℕ → ℕ → ℕ
   nextAt s c = cond (leads s c) (plusAt base s + c) 0
 
-  -- The walk from s along labels; its cell is 0 where one of them leads nowhere.
+  -- The walk from s along labels: the cell at which it stops, where a label leads nowhere or none is left.
   unfoldable pub walkAt : ℕ → List ℕ → Reached
   walkAt s [] = record { cell = s; met = 0 }
   walkAt s (c ∷ cs) =
       let t = nextAt s c in
       let on = walkAt t cs in
       let further : Reached = record { cell = on .cell; met = suc (on .met) } in
-      cond (eqb t 0) (record { cell = 0; met = 0 }) further
+      cond (eqb t 0) (record { cell = s; met = 0 }) further
 
-  -- The cell after the end mark, or 0.
+  -- The cell to which the end mark leads after a walk along n characters; 0 where one of them led nowhere.
+  unfoldable pub leafAfter : ℕ → Reached → ℕ
+  leafAfter n w = cond (eqb (w .met) n) (nextAt (w .cell) END) 0
+
+  -- The cell after an identifier's end mark, or 0.
   unfoldable pub leafAt : Profile → List ℕ → ℕ
-  leafAt P key = nextAt (walkAt 1 (map (P .code) key) .cell) END
+  leafAt P key = leafAfter (length key) (walkAt 1 (map (P .code) key))
 
   -- The row found after the end mark, or 0.
   unfoldable pub rowFound : Profile → List ℕ → ℕ

@@ -48,14 +48,18 @@ grow last T size s c (d ∷ ds) n =
     record { table = on .table; fitted = fits last (d ∷ []) q && on .fitted; count = 0 }
 
 module _ (P : Profile) (last : ℕ) where
-  -- At the node s, whose label c leads nowhere. If that label's cell is used or past the last cell, the node collides: its
-  -- base becomes the placed base for its children's codes and the new one, and its children move.
-  unfoldable pub extend : Cells → ℕ → ℕ → ℕ → List ℕ → ℕ → Course
-  extend T size s c cs n =
+  -- The node s collides: its base becomes the placed base for its children's codes and the new one, and its children move.
+  unfoldable pub collide : Cells → ℕ → ℕ → ℕ → List ℕ → ℕ → Course
+  collide T size s c cs n =
       let codes = childCodes T s (P .greatest) in
       let q = placed (used T) size (c ∷ codes) in
       let on = grow last (relocate T s q) (max size (q + greatestOf (c ∷ codes))) s c cs n in
-      let collision : Course = record { table = on .table; fitted = fits last (c ∷ codes) q && on .fitted; count = length codes } in
+      record { table = on .table; fitted = fits last (c ∷ codes) q && on .fitted; count = length codes }
+
+  -- At the node s, whose label c leads nowhere. If that label's cell is used or past the last cell, the node collides.
+  unfoldable pub extend : Cells → ℕ → ℕ → ℕ → List ℕ → ℕ → Course
+  extend T size s c cs n =
+      let collision = collide T size s c cs n in
       let plain = grow last T size s c cs n in
       cond (used T (T s .base + c) || ltb last (T s .base + c)) collision plain
 

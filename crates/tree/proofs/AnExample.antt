@@ -10,14 +10,14 @@ use Rattle.rules.specs.Answers.{found, present}
 use Rattle.rules.specs.WhatTheIndexDoes.{codeOf, document01, coded, isIdentifier, labels, isRow}
 use Rattle.rules.specs.Table.{empty, update, used, largestUsed, next, walk, node, lookup, childCodes, childless}
 use Rattle.rules.specs.Placement.{greatestOf, opens, placed, fits}
-use Rattle.rules.specs.Insertion.{to, renamed, moved, relocate, grow, extend, insertFrom, inserted}
+use Rattle.rules.specs.Insertion.{to, renamed, moved, relocate, grow, collide, extend, insertFrom, inserted}
 use Rattle.rules.specs.DeletionAndCompaction.{trimmed, prune, compactionStep, compactionSteps, deleted, compacted}
 use Rattle.rules.specs.Commands.{Command, insert, delete, find, compact, keyAllowed, numberAllowed, carriedOut, answered}
 use Rattle.tree.specs.ThePlainList.{history}
 
 -- What the empty table answers to commands, in arrays with this last cell.
 unfoldable pub answersIn : ℕ → List Command → List Answer
-unfolding within firstFrom codeOf coded isIdentifier labels isRow empty update used largestUsed next walk node lookup childCodes childless greatestOf opens placed fits to renamed moved relocate grow extend insertFrom inserted trimmed prune compactionStep compactionSteps deleted compacted keyAllowed numberAllowed carriedOut answered history
+unfolding within firstFrom codeOf coded isIdentifier labels isRow empty update used largestUsed next walk node lookup childCodes childless greatestOf opens placed fits to renamed moved relocate grow collide extend insertFrom inserted trimmed prune compactionStep compactionSteps deleted compacted keyAllowed numberAllowed carriedOut answered history
 answersIn last cs = history document01 last empty [] cs .answers
 
 -- The lines of the example: `ab` is 97, 98, and `a` is 97.

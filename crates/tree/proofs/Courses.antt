@@ -9,7 +9,7 @@ use lib.Dec.{ltb, eqb}
 use borrow.Author.Tests.{eqb-true}
 use Rattle.rules.specs.WhatTheIndexDoes.{Profile, isRow}
 use Rattle.rules.specs.Table.{Cells, used, next, node}
-use Rattle.rules.specs.Insertion.{relocate, Course, grow, extend, insertFrom}
+use Rattle.rules.specs.Insertion.{relocate, Course, grow, collide, extend, insertFrom}
 use Rattle.rules.proofs.Choices.{branch, not-zero, neither}
 use Rattle.tree.specs.Soundness.{Held, rowAt, Fruit, Tree}
 use Rattle.tree.specs.Moved.{Still, Moved}
@@ -58,7 +58,7 @@ module _ {P : Profile} (some : 1 ≤ P .greatest) (last n : ℕ) (row : isRow n 
         grow-grown some last n row cs c path w′ wd (node-moved w m path ∙ rw e (s-stays w m)) p (fruit-weak w′ s (fruit-moved w m fruit))
 
     extend-inserted : next T s c ≡ 0 → Inserted P T (reverseAux (c ∷ cs) path) n (extend P last T size s c cs n)
-    unfolding extend relocate
+    unfolding extend collide relocate
     extend-inserted none = branch (Inserted P T (reverseAux (c ∷ cs) path) n) (used T (T s .base + c) || ltb last (T s .base + c))
         (λ _.
         let g = grown none in

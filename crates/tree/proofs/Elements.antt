@@ -158,7 +158,7 @@ module _ (K : Kind) (P : Profile) (t : Table) (w : Tidy t) (n : ℕ) (long : t .
       (λ h. check-beyond K P t n i h ∙ sym (check-past K P t i (tidy-past w i (omega arith)) (omega arith)))
       (lt-or-ge i n)
 
-  check-plus : (i : ℕ) → i ≢ 1 → plusAt (renderCheck K P n t) i ≡ t .cells i .parent
+  pub check-plus : (i : ℕ) → i ≢ 1 → plusAt (renderCheck K P n t) i ≡ t .cells i .parent
   check-plus i d = ap plusOf (check-at i) ∙ plus-check K P t i d
 
   abbrev base : List ℤ

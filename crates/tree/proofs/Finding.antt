@@ -2,13 +2,14 @@
 -- nothing.
 use mathlib.Core.Path.{_≡_, refl, sym, ap, _∙_}
 use mathlib.Core.Logic.{⊎-elim}
-use mathlib.Core.Bool.{Bool, true, cond, _&&_, true≢false}
+use mathlib.Core.Bool.{Bool, true, false, cond, _&&_, true≢false}
 use mathlib.Core.List.{List, [], _∷_, map, reverse}
-use Prim.Native.Nat.{ℕ, _+_, _≤_}
+use Prim.Native.Nat.{ℕ, _+_, _≤_, compare·suc-suc}
 use native.Mathlib.Omega.{arith}
+use lib.ListN.{length}
 use lib.IntN.{ℤ}
 use lib.Dec.{leb, eqb}
-use borrow.Author.Tests.{le-leb, leb-true, eq-eqb, eqb-true}
+use borrow.Author.Tests.{le-leb, leb-true, eq-eqb, ne-eqb, eqb-true}
 use Rattle.numbers.specs.Stored.{plusAt, minusAt}
 use Rattle.numbers.proofs.Cases.{some?}
 use Rattle.rules.specs.Answers.{foundOrAbsent}
@@ -16,10 +17,11 @@ use Rattle.rules.specs.WhatTheIndexDoes.{END, Profile, RoundTrip, coded, isIden
 use Rattle.rules.specs.Table.{Cells, next, walk, node, lookup}
 use Rattle.rules.specs.ASoundTable.{sizeAt, sound}
 use Rattle.rules.specs.Rendering.{Kind, readCells, readTable}
-use Rattle.rules.specs.Finding.{Reached, rowOf, leads, nextAt, walkAt, leafAt, rowFound}
+use Rattle.rules.specs.Finding.{Reached, rowOf, leads, nextAt, walkAt, leafAfter, leafAt, rowFound}
 use Rattle.rules.specs.Listing.{Entry, entries}
 use Rattle.rules.specs.Commands.{find, keyAllowed, numberAllowed}
 use Rattle.rules.specs.Calls.{findCall}
+use Rattle.rules.proofs.Walks.{walk-stops, walk-goes-on}
 use Rattle.rules.proofs.Choices.{branch, branch₂, both, join}
 use Rattle.tree.specs.Soundness.{Step, Tree}
 use Rattle.tree.specs.Renders.{Renders}
@@ -51,7 +53,7 @@ module _ {K : Kind} {P : Profile} {base check : List ℤ} (r : Renders K P base 
       let pos = row-pos tree t h in
       join (le-leb 1 t pos) (rw (← read-row base check t pos) (held-leaf (tree .sits t (row-used tree t h) .held) h .2))
 
-  row-same : (t : ℕ) → rowOf base t ≡ T t .row
+  pub row-same : (t : ℕ) → rowOf base t ≡ T t .row
   unfolding rowOf
   row-same t = chosen (leb 1 t && isRow (minusAt base t))
       (λ y. sym (read-row base check t (leb-true 1 t (both (leb 1 t) _ y .0)))) (leaf-row t)
@@ -85,7 +87,7 @@ module _ {K : Kind} {P : Profile} {base check : List ℤ} (r : Renders K P base 
 
     -- A code leads where it leads in the table. (0, the label of a character without a code, need not: check[1] is the mark, so that
     -- it leads from a root with base 1 to the root itself.)
-    next-same : 1 ≤ c → nextAt base check s c ≡ next T s c
+    pub next-same : 1 ≤ c → nextAt base check s c ≡ next T s c
     unfolding nextAt
     next-same low = chosen (leads base check s c) (λ y. sym (step-next T (leads-step low y))) (λ h. step-leads (next-step T h))
 
@@ -95,22 +97,32 @@ module _ {K : Kind} {P : Profile} {base check : List ℤ} (r : Renders K P base 
   walk-nowhere : (s : ℕ) (cs : List ℕ) → s ≡ 0 → walk T s cs ≡ 0
   walk-nowhere s cs z = ⊎-elim (λ n. n) (λ h. absurd (omega (arith, walk-pos tree s cs h))) (some? (walk T s cs))
 
-  walk-same : (s : ℕ) (key : List ℕ) → coded P key ≡ true → walkAt base check s (map (P .code) key) .cell ≡ walk T s (map (P .code) key)
-  unfolding walkAt walk coded
+  walk-same : (s : ℕ) (key : List ℕ) → coded P key ≡ true →
+      let w = walkAt base check s (map (P .code) key) in cond (eqb (w .met) (length key)) (w .cell) 0 ≡ walk T s (map (P .code) key)
+  unfolding walk coded walkAt
   walk-same s [] k = refl
   walk-same s (b ∷ bs) k =
       let (low, k) = both (leb 1 (P .code b)) (coded P bs) k in
       let t = next T s (P .code b) in
       let on = map (P .code) bs in
-      rw (next-same s (P .code b) (leb-true 1 (P .code b) low)) (branch (λ (x : Reached). x .cell ≡ walk T t on) (eqb t 0)
-      (λ z. sym (walk-nowhere t on (eqb-true t 0 z))) (λ _. walk-same t bs k))
+      let to = sym (next-same s (P .code b) (leb-true 1 (P .code b) low)) in
+      ⊎-elim
+      (λ z. rw (walk-stops base check s (P .code b) on to z, ne-eqb 0 (length (b ∷ bs)) (λ e. omega arith)) (sym (walk-nowhere t on z)))
+      (λ h. rw (walk-goes-on base check s (P .code b) on to h) (simp compare·suc-suc (walk-same t bs k)))
+      (some? t)
+
+  pub next-reached : (b : Bool) (s : ℕ) → cond b (nextAt base check s END) 0 ≡ nextAt base check (cond b s 0) END
+  unfolding nextAt leads
+  next-reached true s = refl
+  next-reached false s = refl
 
   leaf-same : (key : List ℕ) → coded P key ≡ true → leafAt base check P key ≡ node T (reverse (labels P key))
-  unfolding leafAt node
+  unfolding leafAt leafAfter node
   leaf-same key k =
       let codes = map (P .code) key in
+      let w = walkAt base check 1 codes in
       let cell = walk-same 1 key k ∙ walk-node T codes [] in
-      ap (λ (s : ℕ). nextAt base check s END) cell ∙ next-same (node T (reverse codes)) END (omega arith) ∙ ap (node T) (sym (path-labels P key))
+      next-reached (eqb (w .met) (length key)) (w .cell) ∙ ap (λ (s : ℕ). nextAt base check s END) cell ∙ next-same (node T (reverse codes)) END (omega arith) ∙ ap (node T) (sym (path-labels P key))
 
   rendered-row : (key : List ℕ) → coded P key ≡ true → rowFound base check P key ≡ lookup P T key
   unfolding rowFound

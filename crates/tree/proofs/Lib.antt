@@ -45,4 +45,6 @@ pub mod EmptyTable
 pub mod PlainList
 pub mod AnyHistory
 pub mod Finding
+-- Where the walk stops, insertion begins.
+pub mod Stopping
 pub mod AnExample

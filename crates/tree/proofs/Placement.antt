@@ -1,15 +1,19 @@
 -- The placed base: it opens, is 1 or more, is the least that does, and is at most the size; so there is one for every set of
--- codes. Assumes nothing.
-use mathlib.Core.Path.{_≡_, refl}
-use mathlib.Core.Logic.{inl, inr}
-use mathlib.Core.Bool.{Bool, true, false, not}
+-- codes. What the search along a chain gives is that base, where the chain names every free cell. Assumes nothing.
+use mathlib.Core.Path.{_≡_, refl, sym, subst}
+use mathlib.Core.Logic.{inl, inr, ⊎-elim}
+use mathlib.Core.Bool.{Bool, true, false, not, _&&_, _||_, or-true}
 use mathlib.Core.List.{List, [], _∷_}
 use Prim.Native.Nat.{ℕ, _+_, _≤_, _<_}
+use native.Mathlib.Nat.{min-eq-left, min-eq-right, le-of-lt}
 use native.Mathlib.Omega.{arith}
-use borrow.Author.Tests.{not-true}
-use Rattle.rules.specs.Placement.{greatestOf, opens, placed}
-use Rattle.rules.proofs.Choices.{both}
-use Rattle.rules.proofs.Ranges.{first-least, first-low, first-passes}
+use lib.ListN.{length}
+use lib.Dec.{ltb}
+use borrow.Author.Tests.{not-true, lt-ltb}
+use Rattle.numbers.proofs.Cases.{lt-or-ge}
+use Rattle.rules.specs.Placement.{leastOf, greatestOf, opens, placed, sought}
+use Rattle.rules.proofs.Choices.{both, join-second}
+use Rattle.rules.proofs.Ranges.{first-least, first-low, first-passes, first-same}
 use Rattle.tree.specs.Members.{Among}
 
 pub among-greatest : (cs : List ℕ) (c : ℕ) → Among c cs → c ≤ greatestOf cs
@@ -17,6 +21,23 @@ unfolding greatestOf
 among-greatest [] c m = absurd m
 among-greatest (d ∷ cs) c (inl e) = omega arith
 among-greatest (d ∷ cs) c (inr m) = omega (arith, among-greatest cs c m)
+
+pub among-least : (cs : List ℕ) (c : ℕ) → Among c cs → leastOf cs ≤ c
+unfolding leastOf
+among-least [] c m = absurd m
+among-least (d ∷ []) c (inl e) = omega arith
+among-least (d ∷ []) c (inr m) = absurd m
+among-least (d ∷ (e ∷ cs)) c (inl v) = omega arith
+among-least (d ∷ (e ∷ cs)) c (inr m) = omega (arith, among-least (e ∷ cs) c m)
+
+least-among : (cs : List ℕ) → 0 < length cs → Among (leastOf cs) cs
+unfolding leastOf
+least-among [] h = absurd (omega arith)
+least-among (c ∷ []) h = inl refl
+least-among (c ∷ (d ∷ cs)) h = ⊎-elim
+    (λ l. inr (subst (λ n. Among n (d ∷ cs)) (sym (min-eq-right (le-of-lt l))) (least-among (d ∷ cs) (omega arith))))
+    (λ l. inl (min-eq-left l))
+    (lt-or-ge (leastOf (d ∷ cs)) c)
 
 module _ (used : ℕ → Bool) where
   -- A base opens exactly if each code's cell is unused.
@@ -47,3 +68,22 @@ module _ (used : ℕ → Bool) where
 
     pub placed-within : 1 ≤ size → ((c : ℕ) → Among c cs → 1 ≤ c) → placed used size cs ≤ size
     placed-within h low = placed-least size cs size h (each-opens cs size (λ c m. past _ (omega (arith, low c m))))
+
+-- What the search along a chain asks of a base: its least cell is on the chain or past the size, and it opens.
+abbrev pub suits : (ℕ → Bool) → (ℕ → Bool) → ℕ → List ℕ → ℕ → Bool
+suits chain used size codes q = (chain (q + leastOf codes) || ltb size (q + leastOf codes)) && opens used codes q
+
+-- Where the chain names every free cell, it gives the placed base.
+module _ (chain used : ℕ → Bool) (size : ℕ) (names : (u : ℕ) → 1 ≤ u → u ≤ size → chain u ≡ not (used u))
+    (codes : List ℕ) (some : 0 < length codes) where
+  suits-opens : (q : ℕ) → 1 ≤ q → suits chain used size codes q ≡ opens used codes q
+  suits-opens q h =
+      let u = q + leastOf codes in
+      join-second (chain u || ltb size u) (opens used codes q) (λ o. ⊎-elim
+      (λ l. rw (lt-ltb size u l, or-true))
+      (λ l. rw (names u (omega arith) l, opens-each used codes q (leastOf codes) o (least-among codes some)))
+      (lt-or-ge size u))
+
+  pub sought-placed : sought chain used size codes ≡ placed used size codes
+  unfolding sought placed
+  sought-placed = first-same (suits chain used size codes) (opens used codes) size 1 suits-opens

@@ -11,7 +11,7 @@ use Rattle.numbers.proofs.Cases.{lt-or-ge}
 use Rattle.rules.specs.WhatTheIndexDoes.{Profile}
 use Rattle.rules.specs.Table.{Cells, inner, update, used, next}
 use Rattle.rules.specs.Placement.{greatestOf, placed, fits}
-use Rattle.rules.specs.Insertion.{relocate, Course, grow, extend, insertFrom}
+use Rattle.rules.specs.Insertion.{relocate, Course, grow, collide, extend, insertFrom}
 use Rattle.rules.proofs.Choices.{branch, not-zero, neither}
 use Rattle.tree.specs.Soundness.{Tree}
 use Rattle.tree.specs.Room.{Honest}
@@ -50,7 +50,7 @@ module _ (last : ℕ) where
 
   module _ {P : Profile} {T : Cells} {size : ℕ} (w : Tree P T size) (h : size ≤ last) (n : ℕ) where
     extend-honest : (s c : ℕ) (cs : List ℕ) → 1 ≤ T s .base → Honest last (extend P last T size s c cs n)
-    unfolding extend fits greatestOf
+    unfolding extend collide fits greatestOf
     extend-honest s c cs based = branch (Honest last) (used T (T s .base + c) || ltb last (T s .base + c))
         (λ e. placement-honest far (on .table .size) (on .fitted) (omega (arith, grow-wide cs c R (max size far) s n))
         (λ g. grow-honest cs c R (max size far) s n (omega arith) (omega (arith, collide-base w s c based))))

@@ -9,6 +9,7 @@ pub mod MovingInTurn
 pub mod Room
 pub mod StepsTaken
 pub mod AfterAnEdit
+pub mod Labels
 pub mod Listed
 -- The plain list of demand 2.
 pub mod ThePlainList

@@ -11,20 +11,11 @@ use lib.IntN.{ℤ}
 use borrow.Author.Tests.{ne-eqb}
 use Rattle.rules.specs.WhatTheIndexDoes.{codeOf}
 use Rattle.rules.specs.Finding.{nextAt, walkAt}
+use Rattle.rules.proofs.Walks.{walk-stops, walk-goes-on}
 use Rattle.rules.proofs.Texts.{behind, first-and-rest, none-left}
 use Rattle.index.specs.Promised.{Reaches}
 use Rattle.index.proofs.finding.walk.Statement.{statement}
 use Rattle.index.proofs.finding.walk.Tie as tie
-
--- A label c from the cell s, which leads to t: the walk stops there, or goes on.
-module _ (base check : List ℤ) (s c : ℕ) (cs : List ℕ) {t : ℕ} (to : t ≡ nextAt base check s c) where
-  walk-stops : t ≡ 0 → walkAt base check s (c ∷ cs) ≡ record { cell = 0; met = 0 }
-  unfolding walkAt
-  walk-stops z = rw (← to, z)
-
-  walk-goes-on : 1 ≤ t → walkAt base check s (c ∷ cs) ≡ (let on = walkAt base check t cs in record { cell = on .cell; met = suc (on .met) })
-  unfolding walkAt
-  walk-goes-on h = rw (← to, ne-eqb t 0 (λ z. omega arith))
 
 -- The cell s is reached after n characters of key, and text is what is left of it: what the walk from there reaches is what the
 -- walk along all of key does.
@@ -39,8 +30,8 @@ module _ {base check : List ℤ} {s n : ℕ} {text key : List ℕ} (u : Underway
 
   -- The first character leads to t.
   module _ (h : 0 < length text) {t : ℕ} (to : t ≡ nextAt base check s (codeOf (getD text 0 0))) where
-    stops : t ≡ 0 → Reaches (walkAt base check 1 (map codeOf key)) t n
-    stops z = rw z (rw (first-and-rest text h, walk-stops base check s _ _ to z, add-zero) at (u .reaches))
+    stops : t ≡ 0 → Reaches (walkAt base check 1 (map codeOf key)) s n
+    stops z = rw (first-and-rest text h, walk-stops base check s _ _ to z, add-zero) at (u .reaches)
 
     goes-on : 1 ≤ t → Underway base check t (n + 1) (behind text) key
     goes-on l = record {

@@ -1,0 +1,43 @@
+-- `row_of` gives the row in the range of rows, or 0. Assumes nothing.
+use mathlib.Core.Path.{_≡_, sym, _∙_}
+use mathlib.Core.Bool.{true, false, and-false}
+use mathlib.Core.List.{List}
+use Prim.Native.Nat.{ℕ, _≤_}
+use native.Mathlib.Omega.{arith}
+use lib.IntN.{ℤ}
+use borrow.Author.Needs.{needs}
+use borrow.Author.Tests.{le-leb}
+use Rattle.numbers.specs.Stored.{minusAt, Reads}
+use Rattle.rules.specs.WhatTheIndexDoes.{isRow}
+use Rattle.rules.specs.Finding.{rowOf}
+use Rattle.index.proofs.finding.row_of.Statement.{statement}
+use Rattle.index.proofs.finding.row_of.Tie as tie
+
+-- Minus the element t of base is n.
+module _ (base : List ℤ) (t : ℕ) {n : ℕ} (is : Reads (minusAt base t) n) where
+  in-range : 1 ≤ t → isRow n ≡ true → Reads (rowOf base t) n
+  unfolding rowOf
+  in-range h r = record { is = rw (← is .is, le-leb 1 t h, r); small = is .small }
+
+  out-of-range : isRow n ≡ false → Reads (rowOf base t) 0
+  unfolding rowOf
+  out-of-range r = record { is = rw (← is .is, r, and-false); small = omega arith }
+
+returns : tie.Need-returns
+unfolding rowOf
+returns c = record { is = rw (c .if1 .taken); small = omega arith }
+
+minus-at-requires : tie.Need-minus-at-requires
+minus-at-requires c κs = search needs
+
+is-row-requires : tie.Need-is-row-requires
+is-row-requires c κs = search needs
+
+returns-2 : tie.Need-returns-2
+returns-2 c = in-range _ _ (c .before .before .minus-at .ensures) (omega arith) (sym (c .before .is-row .ensures) ∙ c .if2 .taken)
+
+returns-3 : tie.Need-returns-3
+returns-3 c = out-of-range _ _ (c .before .before .minus-at .ensures) (sym (c .before .is-row .ensures) ∙ c .if2 .left)
+
+pub row-of-spec : {M : Type 1} → statement M
+row-of-spec = tie.close (tie.spec returns minus-at-requires is-row-requires returns-2 returns-3)
