@@ -1,14 +1,16 @@
 // The public calls. None of them asks anything of its caller: each has a promise for arrays of any lengths and contents and for
 // any command, refused ones included, and it determines the answer and every element of the arrays that are lent.
 mod finding;
+mod insertion;
 
 use rules::Answer;
+use rules::Row;
 ghost use lib.ListN.{length, replicate};
 ghost use mathlib.Core.Path.{_≡_};
 ghost use Rattle.numbers.specs.Stored.{positive};
 ghost use Rattle.rules.specs.WhatTheIndexDoes.{document01};
 ghost use Rattle.rules.specs.Rendering.{chained};
-ghost use Rattle.rules.specs.Calls.{freshCall, findCall, auditCall};
+ghost use Rattle.rules.specs.Calls.{freshCall, findCall, insertCall, auditCall};
 ghost use Rattle.index.specs.Promised.{Answers, Edits};
 
 // Makes the empty table, whatever the arrays held: SIZE, or done.
@@ -49,6 +51,26 @@ pub fn find(base: &[i32], check: &[i32], key: &[u8]) -> Answer
         return Answer::Key;
     }
     finding::row(base, check, key)
+}
+
+// Inserts an identifier with its row: SIZE, KEY, NUMBER, DAMAGED, PRESENT with the row held, NO ROOM, or done with the number of
+// children that changed cell.
+pub fn insert(base: &mut [i32], check: &mut [i32], key: &[u8], row: Row) -> Answer
+    ensures { λ r. ⌜ Edits (insertCall chained document01 (now (base .entry)) (now (check .entry)) (now (key .entry)) (row .0)) r (now (base .exit)) (now (check .exit)) ⌝ }
+{
+    if !rules::right_lengths(base, check) {
+        return Answer::Size;
+    }
+    if !rules::is_identifier(key) {
+        return Answer::Key;
+    }
+    if !rules::is_row(row.0 as usize) {
+        return Answer::Number;
+    }
+    if !audit::is_sound(base, check) {
+        return Answer::Damaged;
+    }
+    insertion::insert(base, check, key, row)
 }
 
 // Says whether the arrays hold a sound table: SIZE, DAMAGED, or done.

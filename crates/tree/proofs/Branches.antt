@@ -123,7 +123,7 @@ word-high P c [] h e = omega arith
 word-high P c (d ∷ cs) h k = k .1
 
 -- A cell's base does not matter to what is used.
-used-same : (T : Cells) (t : ℕ) (x y : Content) → x .parent ≡ y .parent → (u : ℕ) → update T t x u .parent ≡ update T t y u .parent
+pub used-same : (T : Cells) (t : ℕ) (x y : Content) → x .parent ≡ y .parent → (u : ℕ) → update T t x u .parent ≡ update T t y u .parent
 used-same T t x y e u = ⊎-elim own (λ d. rw (update-off T t x u d, update-off T t y u d)) (same? u t)
   where
     own : u ≡ t → update T t x u .parent ≡ update T t y u .parent

@@ -1,21 +1,23 @@
--- The codes of a cell's children are those that lead on, and a cell is childless where none does. Assumes nothing.
-use mathlib.Core.Path.{_≡_, refl, ap}
+-- The codes of a cell's children are those that lead on, and a cell is childless where none does. Where a base lies. Assumes
+-- nothing.
+use mathlib.Core.Path.{_≡_, refl, sym, ap, _∙_}
 use mathlib.Core.Logic.{_≢_, inl, inr, ⊎-elim}
-use mathlib.Core.Bool.{true, false}
-use mathlib.Core.List.{List, [], _∷_}
+use mathlib.Core.Bool.{Bool, true, false}
+use mathlib.Core.List.{List, [], _∷_, cons≢nil}
 use Prim.Native.Nat.{ℕ, zero, suc, _≤_}
 use native.Mathlib.Omega.{arith}
-use lib.ListN.{length}
+use lib.ListN.{length, drop}
+use lib.Seq.{drop-nil}
 use lib.Dec.{eqb}
 use borrow.Author.Tests.{eq-eqb, eqb-true, eqb-false}
 use Rattle.numbers.proofs.Cases.{same?, some?}
 use Rattle.rules.specs.WhatTheIndexDoes.{Profile}
-use Rattle.rules.specs.Table.{Cells, next, childCodes, childless}
+use Rattle.rules.specs.Table.{Cells, Table, next, childCodes, childless}
 use Rattle.rules.proofs.Choices.{branch}
-use Rattle.tree.specs.Soundness.{Step, Tree}
+use Rattle.tree.specs.Soundness.{Step, Tree, Sound}
 use Rattle.tree.specs.Members.{Among, Once}
-use Rattle.tree.proofs.Steps.{step-next, next-baseless}
-use Rattle.tree.proofs.Trees.{step-low, step-high, step-far}
+use Rattle.tree.proofs.Steps.{step-next, step?, next-step, next-baseless}
+use Rattle.tree.proofs.Trees.{used-pos, based-used, step-used, step-low, step-high, step-far}
 
 module _ (T : Cells) (s : ℕ) where
   pub codes-lead : (k c : ℕ) → Among c (childCodes T s k) → (1 ≤ c) × (c ≤ k) × (1 ≤ next T s c)
@@ -34,6 +36,18 @@ module _ (T : Cells) (s : ℕ) where
       (λ e. let z : next T s (suc k) ≡ 0 = eqb-true _ _ e in
       let d : c ≢ suc k = (λ f. omega (arith, ap (next T s) f)) in lead-codes k c l (omega arith) n)
       (λ e. ⊎-elim (λ f. inl f) (λ d. inr (lead-codes k c l (omega arith) n)) (same? c (suc k)))
+
+  -- c is one of the codes l, and cs are those of the children of s with smaller codes.
+  abbrev pub Behind : ℕ → List ℕ → List ℕ → Type 0
+  Behind c cs l = (j : ℕ) × (c ≡ suc j) × (cs ≡ childCodes T s j) × Among c l
+
+  pub codes-behind : (k i : ℕ) {c : ℕ} {cs : List ℕ} → drop i (childCodes T s k) ≡ c ∷ cs → Behind c cs (childCodes T s k)
+  unfolding childCodes
+  codes-behind zero i = λ e. absurd (cons≢nil (sym e ∙ drop-nil i))
+  codes-behind (suc k) zero {c} {cs} = branch (λ l. l ≡ c ∷ cs → Behind c cs l) (eqb (next T s (suc k)) 0)
+      (λ f. codes-behind k 0) (λ f e. (k, cc, cc, inl (cc)))
+  codes-behind (suc k) (suc i) {c} {cs} = branch (λ l. drop (suc i) l ≡ c ∷ cs → Behind c cs l) (eqb (next T s (suc k)) 0)
+      (λ f. codes-behind k (suc i)) (λ f e. let (j, p, r, a) = codes-behind k i e in (j, p, r, inr a))
 
   pub codes-once : (k : ℕ) → Once (childCodes T s k)
   unfolding childCodes
@@ -76,3 +90,23 @@ module _ {P : Profile} {T : Cells} {size : ℕ} (w : Tree P T size) where
       let k = w .sits u (rw f h) in
       let p : Step T s (k .code) u = rw f at (k .step) in
       omega (arith, step-next T p, childless-next T s (P .greatest) (k .code) e (k .low) (k .high), step-far w p)
+
+-- In a sound table no base is past the size: a child lies behind it, or it is 1, that of a root without children.
+module _ {P : Profile} {t : Table} (w : Sound P t) (s : ℕ) where
+  near-child : (c : ℕ) → 1 ≤ next (t .cells) s c → t .cells s .base ≤ t .size
+  near-child c n =
+      let p = next-step (t .cells) n in
+      omega (arith, p .at, w .tree .inside (next (t .cells) s c) (step-used (w .tree) p))
+
+  near-root : s ≡ 1 → (b : Bool) → childless (t .cells) s (P .greatest) ≡ b → t .cells s .base ≤ t .size
+  near-root e false f = let (c, n) = child-next (t .cells) s (P .greatest) f in near-child c n
+  near-root e true f =
+      let none : (c : ℕ) → next (t .cells) 1 c ≡ 0 = λ c. ⊎-elim
+      (λ p. absurd (childless-alone (w .tree) s f (omega arith) (next (t .cells) 1 c) (p .back ∙ sym e))) (λ z. z) (step? (t .cells) 1 c) in
+      rw e (omega (arith, w .bare none, w .tree .some))
+
+  pub based-near : 1 ≤ t .cells s .base → t .cells s .base ≤ t .size
+  based-near h = ⊎-elim
+      (λ e. near-root e (childless (t .cells) s (P .greatest)) refl)
+      (λ u. let (c, n) = w .fruit s (λ e. omega (arith, used-pos (w .tree) s u)) u h in near-child c n)
+      (based-used (w .tree) s h)

@@ -9,6 +9,7 @@ use Rattle.rules.specs.Table.{Cells, used, largestUsed}
 use Rattle.rules.proofs.Choices.{branch}
 use Rattle.tree.specs.Soundness.{Tree}
 use Rattle.tree.proofs.UsedCells.{parent-used, other-parent}
+use Rattle.tree.proofs.Trees.{tree-sized}
 
 module _ (T : Cells) where
   largest-pos : (k : ℕ) → 1 ≤ largestUsed T k
@@ -46,14 +47,5 @@ module _ (T : Cells) where
 
 module _ {P : Profile} {T : Cells} {size : ℕ} where
   pub trimmed-tree : Tree P T size → Tree P T (largestUsed T size)
-  trimmed-tree w = record {
-    nowhere = w .nowhere;
-    root-parent = w .root-parent;
-    root-base = w .root-base;
-    root-row = w .root-row;
-    blank = w .blank;
-    sits = w .sits;
-    reach = w .reach;
-    some = largest-pos T size;
-    inside = λ t h. largest-high T size t (parent-used T t h) (w .inside t h);
-  }
+  trimmed-tree w = tree-sized w (largestUsed T size) (largest-pos T size)
+      (λ t h. largest-high T size t (parent-used T t h) (w .inside t h))

@@ -47,4 +47,5 @@ pub mod AnyHistory
 pub mod Finding
 -- Where the walk stops, insertion begins.
 pub mod Stopping
+pub mod Labels
 pub mod AnExample

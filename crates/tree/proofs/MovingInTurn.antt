@@ -6,7 +6,7 @@ use mathlib.Core.Bool.{true, false, cond, _&&_, and-false}
 use Prim.Native.Nat.{ℕ, zero, suc, _+_, _-_, _≤_}
 use native.Mathlib.Omega.{arith}
 use lib.Dec.{leb, eqb}
-use borrow.Author.Tests.{le-leb, lt-leb, eq-eqb, ne-eqb, eqb-true, eqb-false}
+use borrow.Author.Tests.{le-leb, lt-leb, eq-eqb, ne-eqb, eqb-true}
 use Rattle.numbers.proofs.Cases.{lt-or-ge, same?}
 use Rattle.rules.specs.WhatTheIndexDoes.{Profile}
 use Rattle.rules.specs.Table.{Content, Cells, free, next, childCodes}
@@ -16,18 +16,18 @@ use Rattle.tree.specs.Soundness.{Step, Tree}
 use Rattle.tree.specs.Moved.{Fit}
 use Rattle.tree.specs.MovingInTurn.{under, hop, hops, rebase, inTurn}
 use Rattle.tree.proofs.Steps.{step-next, next-step}
-use Rattle.tree.proofs.Relocation.{M, ρ, Kept, s-pos, s-alone, child-far, child-near, to-child, to-other, to-place, place-clear, used-kept, parent-kept, moved-at, moved-from, to-own, s-moved}
+use Rattle.tree.proofs.Relocation.{M, ρ, Kept, s-pos, s-alone, child-far, child-near, to-child, to-other, to-place, place-clear, used-kept, based-kept, parent-kept, moved-at, moved-from, to-own, s-moved}
 
 module _ (H : Cells) (t u : ℕ) where
-  hop-new : hop H t u u ≡ H t
+  pub hop-new : hop H t u u ≡ H t
   unfolding hop
   hop-new = rw (eq-eqb u u refl)
 
-  hop-old : t ≢ u → hop H t u t ≡ free
+  pub hop-old : t ≢ u → hop H t u t ≡ free
   unfolding hop
   hop-old d = rw (ne-eqb _ _ d, eq-eqb t t refl)
 
-  hop-else : (v : ℕ) → v ≢ u → v ≢ t → hop H t u v ≡ under t u (H v)
+  pub hop-else : (v : ℕ) → v ≢ u → v ≢ t → hop H t u v ≡ under t u (H v)
   unfolding hop
   hop-else v d n = rw (ne-eqb _ _ d, ne-eqb _ _ n)
 
@@ -114,6 +114,11 @@ module _ {P : Profile} {T : Cells} {size : ℕ} (w : Tree P T size) {s b q : ℕ
   start = record { at = λ t g. rw (τ-zero t, τ-zero (T t .parent)); from = start-from }
 
   module _ (k : ℕ) {H : Cells} (i : Midway k H) where
+    -- s stays, with its base.
+    pub own-base : H s .base ≡ b
+    unfolding contentThen
+    own-base = ap (λ x. x .base) (rw (τ-own k) at (i .at s (based-kept w m s (rw (m .held) (m .old))))) ∙ m .held
+
     -- No child has the code suc k.
     skip : T (b + suc k) .parent ≢ s → Midway (suc k) H
     unfolding contentThen

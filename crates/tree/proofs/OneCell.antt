@@ -1,6 +1,6 @@
 -- Two tables that differ in one cell: free in T, and in N a cell without children. An insertion goes from T to N, a deletion from
 -- N to T. Assumes nothing.
-use mathlib.Core.Path.{_≡_, refl, sym, ap, _∙_}
+use mathlib.Core.Path.{_≡_, refl, sym, ap, _∙_, fun-ext}
 use mathlib.Core.Logic.{_≢_, _⊎_, inl, inr, ⊎-elim}
 use mathlib.Core.List.{List, [], _∷_}
 use Prim.Native.Nat.{ℕ, _≤_}
@@ -21,6 +21,10 @@ module _ (T : Cells) (t : ℕ) (x : Content) where
   pub update-off : (u : ℕ) → u ≢ t → update T t x u ≡ T u
   unfolding update
   update-off u d = rw (ne-eqb _ _ d)
+
+  -- Cells that hold x in t, and what T holds elsewhere.
+  pub update-is : {N : Cells} → N t ≡ x → ((u : ℕ) → u ≢ t → N u ≡ T u) → N ≡ update T t x
+  update-is e f = fun-ext (λ u. ⊎-elim (λ (o : u ≡ t). rw o (e ∙ sym update-at)) (λ d. f u d ∙ sym (update-off u d)) (same? u t))
 
 -- N is T with one cell t more.
 pub record OneMore (T N : Cells) (t : ℕ) : Type 0 where

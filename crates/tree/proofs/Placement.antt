@@ -22,6 +22,11 @@ among-greatest [] c m = absurd m
 among-greatest (d ∷ cs) c (inl e) = omega arith
 among-greatest (d ∷ cs) c (inr m) = omega (arith, among-greatest cs c m)
 
+pub greatest-within : (cs : List ℕ) (n : ℕ) → ((c : ℕ) → Among c cs → c ≤ n) → greatestOf cs ≤ n
+unfolding greatestOf
+greatest-within [] n h = omega arith
+greatest-within (d ∷ cs) n h = omega (arith, h d (inl refl), greatest-within cs n (λ c m. h c (inr m)))
+
 pub among-least : (cs : List ℕ) (c : ℕ) → Among c cs → leastOf cs ≤ c
 unfolding leastOf
 among-least [] c m = absurd m
@@ -62,9 +67,15 @@ module _ (used : ℕ → Bool) where
     placed-least = first-least (opens used cs) size 1
 
   module _ (size : ℕ) (past : (t : ℕ) → size < t → used t ≡ false) (cs : List ℕ) where
+    opens-past : opens used cs (1 + size) ≡ true
+    opens-past = each-opens cs (1 + size) (λ c m. past _ (omega arith))
+
     pub placed-opens : opens used cs (placed used size cs) ≡ true
     unfolding placed
-    placed-opens = first-passes (opens used cs) size 1 (each-opens cs (1 + size) (λ c m. past _ (omega arith)))
+    placed-opens = first-passes (opens used cs) size 1 opens-past
+
+    pub placed-near : placed used size cs ≤ 1 + size
+    placed-near = placed-least size cs (1 + size) (omega arith) opens-past
 
     pub placed-within : 1 ≤ size → ((c : ℕ) → Among c cs → 1 ≤ c) → placed used size cs ≤ size
     placed-within h low = placed-least size cs size h (each-opens cs size (λ c m. past _ (omega (arith, low c m))))

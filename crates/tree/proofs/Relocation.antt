@@ -77,7 +77,7 @@ module _ {P : Profile} {T : Cells} {size : ℕ} (w : Tree P T size) {s b q : ℕ
   pub low-kept : (u : ℕ) → u ≤ 1 → Kept u
   low-kept u h e = omega (arith, place-clear u e)
 
-  based-kept : (u : ℕ) → 1 ≤ T u .base → Kept u
+  pub based-kept : (u : ℕ) → 1 ≤ T u .base → Kept u
   based-kept u h = ⊎-elim (λ e. low-kept u (omega arith)) (used-kept u) (based-used w u h)
 
   pub parent-kept : (t : ℕ) → Kept (T t .parent)

@@ -75,6 +75,20 @@ module _ {P : Profile} {T : Cells} {size : ℕ} (w : Tree P T size) where
   pub row-pos : (t : ℕ) → 1 ≤ T t .row → 1 ≤ t
   row-pos t h = used-pos t (row-used t h)
 
+  -- The size may be any that holds the used cells.
+  pub tree-sized : (n : ℕ) → 1 ≤ n → ((t : ℕ) → 1 ≤ T t .parent → t ≤ n) → Tree P T n
+  tree-sized n some inside = record {
+    nowhere = w .nowhere;
+    root-parent = w .root-parent;
+    root-base = w .root-base;
+    root-row = w .root-row;
+    blank = w .blank;
+    sits = w .sits;
+    reach = w .reach;
+    some = some;
+    inside = inside;
+  }
+
   pub tree-tidy : Tidy (record { cells = T; size = size })
   tree-tidy = record {
     nowhere = w .nowhere;

@@ -1,0 +1,15 @@
+-- The next free cell, and what arrays hold that show a table.
+pub mod NextFree
+pub mod Shown
+pub mod Holding
+pub mod Stores
+-- The search.
+pub mod TakenCells
+pub mod Seeking
+-- The size, and the chain.
+pub mod Resizing
+pub mod Relinking
+-- A node's children.
+pub mod Handing
+pub mod OneHop
+pub mod HopByHop

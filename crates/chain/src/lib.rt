@@ -1,0 +1,11 @@
+// Empty cells, and the edits that claim and release them. Each leaves the rendering of the table with one thing changed; what
+// each is asked stands in specs/, as a record of its name.
+
+// The placed base, sought along the chain.
+pub mod placing;
+
+// Single cells and the size.
+pub mod cells;
+
+// A node's children.
+pub mod moving;

@@ -1,0 +1,92 @@
+-- What the parts of an insertion are asked, and what they leave.
+use mathlib.Core.Path.{_≡_}
+use mathlib.Core.Logic.{_≢_}
+use mathlib.Core.Bool.{Bool, true, false, cond}
+use mathlib.Core.List.{List, _∷_}
+use Prim.Native.Nat.{ℕ, _+_, _≤_, _<_}
+use lib.IntN.{ℤ}
+use Rattle.rules.specs.declared.Answer.{Answer}
+use Rattle.rules.specs.declared.Answer.the-variants.{Done, NoRoom}
+use Rattle.rules.specs.WhatTheIndexDoes.{GREATEST, document01, isIdentifier, isRow, lastCell}
+use Rattle.rules.specs.Table.{Table, free, used, next, childCodes}
+use Rattle.rules.specs.ASoundTable.{sound}
+use Rattle.rules.specs.Placement.{greatestOf, placed}
+use Rattle.rules.specs.Insertion.{Course}
+use Rattle.tree.specs.Soundness.{Tree}
+use Rattle.tree.specs.Labels.{firstLabel}
+use Rattle.chain.specs.Edits.{Shown, sized, holding}
+
+-- What `label` gives: the first label, not past the greatest.
+pub record Label (rest : List ℕ) (r : ℕ) : Type 0 where
+  pub is : r ≡ firstLabel document01 rest
+  pub small : r ≤ GREATEST
+
+-- ---- what is asked
+
+-- That an identifier be inserted with a row into a table known to be sound.
+pub record Inserts (base check : List ℤ) (key : List ℕ) (row : ℕ) : Type 0 where
+  pub whole : sound document01 base check ≡ true
+  pub identifier : isIdentifier document01 key ≡ true
+  pub row-is : isRow row ≡ true
+
+-- That the rest of an identifier be put below the node s, where its first label leads nowhere.
+pub record Extends (base check : List ℤ) (s : ℕ) (rest : List ℕ) (row : ℕ) (t : Table) : Type 0 where
+  pub shown : Shown base check t
+  pub tree : Tree document01 (t .cells) (t .size)
+  pub based : 1 ≤ t .cells s .base
+  pub near : t .cells s .base ≤ t .size
+  pub low : 1 ≤ firstLabel document01 rest
+  pub nowhere : next (t .cells) s (firstLabel document01 rest) ≡ 0
+  pub row-is : isRow row ≡ true
+
+-- The same, with the codes to be placed: the new one and behind it those of the children of s.
+pub record PlacesAnew (base check : List ℤ) (s : ℕ) (rest : List ℕ) (row : ℕ) (codes : List ℕ) (t : Table) : Type 0 where
+  pub extends : Extends base check s rest row t
+  pub codes-are : codes ≡ firstLabel document01 rest ∷ childCodes (t .cells) s GREATEST
+
+-- The same, with the codes of the children of s, the placed base q and the greatest cell then used, which is not past the last.
+pub record MovesAndGrows (base check : List ℤ) (s : ℕ) (rest : List ℕ) (row q far : ℕ) (codes : List ℕ) (t : Table) : Type 0 where
+  pub extends : Extends base check s rest row t
+  pub codes-are : codes ≡ childCodes (t .cells) s GREATEST
+  pub placed-is : q ≡ placed (used (t .cells)) (t .size) (firstLabel document01 rest ∷ codes)
+  pub far-is : far ≡ q + greatestOf (firstLabel document01 rest ∷ codes)
+  pub fits : far ≤ lastCell base
+
+-- That the rest of an identifier grow from the node s, whose base leads to an unused cell for its first label.
+pub record Grows (base check : List ℤ) (s : ℕ) (rest : List ℕ) (row : ℕ) (t : Table) : Type 0 where
+  pub shown : Shown base check t
+  pub some : 1 ≤ s
+  pub inside : s ≤ t .size
+  pub based : 1 ≤ t .cells s .base
+  pub unused : used (t .cells) (t .cells s .base + firstLabel document01 rest) ≡ false
+  pub fits : t .cells s .base + firstLabel document01 rest ≤ lastCell base
+  pub row-is : isRow row ≡ true
+
+-- That the cell u become free and the size fall to n.
+pub record Retracts (base check : List ℤ) (u n : ℕ) (t : Table) : Type 0 where
+  pub shown : Shown base check t
+  pub far : 2 ≤ u
+  pub parent : 1 ≤ t .cells u .parent
+  pub some : 1 ≤ n
+  pub less : n ≤ t .size
+  pub past : (v : ℕ) → n < v → v ≢ u → used (t .cells) v ≡ false
+
+-- ---- what is left
+
+-- The table without the cell u, of size n.
+abbrev pub retracted : Table → ℕ → ℕ → Table
+retracted t u n = sized (holding t u free) n
+
+-- What a course that began with t leaves: its table where each placement fits, otherwise t.
+abbrev pub leaves : Course → Table → Table
+leaves course t = cond (course .fitted) (course .table) t
+
+-- Whether the course fits, and the rendering of what it leaves.
+pub record Grown (course : Course) (t : Table) (r : Bool) (base check : List ℤ) : Type 0 where
+  pub fitted : r ≡ course .fitted
+  pub left : Shown base check (leaves course t)
+
+-- The answer to it, and the rendering of what it leaves.
+pub record Extended (course : Course) (t : Table) (r : Answer) (base check : List ℤ) : Type 0 where
+  pub answer : r ≡ cond (course .fitted) (Done (course .count)) NoRoom
+  pub left : Shown base check (leaves course t)

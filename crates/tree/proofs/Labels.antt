@@ -1,0 +1,32 @@
+-- What is left of an identifier, taken apart: its first label and those behind it, with none left and with one or more.
+-- Assumes nothing.
+use mathlib.Core.Path.{_≡_, refl, ap, _∙_}
+use mathlib.Core.List.{List, [], _∷_}
+use Prim.Native.Nat.{ℕ, _≤_, _<_}
+use lib.ListN.{length, getD}
+use Rattle.rules.specs.WhatTheIndexDoes.{END, Profile, labels}
+use Rattle.rules.proofs.Texts.{behind, first-and-rest, none-left}
+use Rattle.tree.specs.Labels.{firstLabel, furtherLabels}
+
+module _ (P : Profile) where
+  pub labels-split : (text : List ℕ) → labels P text ≡ firstLabel P text ∷ furtherLabels P text
+  unfolding labels firstLabel furtherLabels
+  labels-split [] = refl
+  labels-split (b ∷ bs) = refl
+
+  module _ (text : List ℕ) where
+    pub first-none : length text ≤ 0 → firstLabel P text ≡ END
+    unfolding firstLabel
+    first-none h = ap (firstLabel P) (none-left text h)
+
+    pub further-none : length text ≤ 0 → furtherLabels P text ≡ []
+    unfolding furtherLabels
+    further-none h = ap (furtherLabels P) (none-left text h)
+
+    pub first-some : 0 < length text → firstLabel P text ≡ P .code (getD text 0 0)
+    unfolding firstLabel
+    first-some h = ap (firstLabel P) (first-and-rest text h)
+
+    pub further-some : 0 < length text → furtherLabels P text ≡ firstLabel P (behind text) ∷ furtherLabels P (behind text)
+    unfolding furtherLabels
+    further-some h = ap (furtherLabels P) (first-and-rest text h) ∙ labels-split (behind text)
