@@ -1,35 +1,30 @@
 -- A table with other contents in one cell: it stays tidy, and where the cell stays used, one store shows it. Assumes nothing.
 use mathlib.Core.Path.{_≡_, refl, sym, ap, _∙_, subst}
-use mathlib.Core.Logic.{_≢_, inl, inr, ⊎-elim}
+use mathlib.Core.Logic.{_≢_, ⊎-elim}
 use mathlib.Core.Bool.{true, cond, _||_}
 use mathlib.Core.List.{List}
-use Prim.Native.Nat.{ℕ, suc, _≤_, _<_}
+use Prim.Native.Nat.{ℕ, suc, _≤_}
 use native.Mathlib.Omega.{arith}
-use lib.ListN.{length, getD, set, length-set}
-use lib.Seq.{getD-set-same, getD-set-other}
+use lib.ListN.{set, length-set}
 use lib.IntN.{ℤ}
 use lib.Dec.{ltb, eqb}
 use borrow.Author.Tests.{lt-ltb, ne-eqb, eqb-true, eqb-false}
 use Rattle.numbers.specs.Stored.{positive}
 use Rattle.numbers.proofs.Cases.{same?}
-use Rattle.rules.specs.WhatTheIndexDoes.{document01, rightLengths}
+use Rattle.rules.specs.WhatTheIndexDoes.{document01}
 use Rattle.rules.specs.Table.{Content, Table, free, update, used}
 use Rattle.rules.specs.Rendering.{chained, nextFree, baseHolds, baseOf, checkOf}
 use Rattle.rules.proofs.Choices.{branch}
 use Rattle.rules.proofs.Ranges.{first-same}
 use Rattle.tree.specs.Renders.{Tidy}
-use Rattle.tree.proofs.UsedCells.{is-used, other-parent}
+use Rattle.tree.proofs.UsedCells.{other-parent}
 use Rattle.tree.proofs.Elements.{check-used}
 use Rattle.tree.proofs.OneCell.{update-at, update-off}
 use Rattle.chain.specs.Edits.{Shown, holding}
-use Rattle.chain.proofs.Shown.{shown-lengths, shown-long, base-element, check-element, show}
+use Rattle.chain.proofs.Shown.{shown-lengths, shown-long, base-element, check-element}
+use Rattle.chain.proofs.Stores.{stored, show-again}
 
--- ---- lengths and elements
-
-pub same-lengths : (base check base′ check′ : List ℤ) → length base′ ≡ length base → length check′ ≡ length check →
-    rightLengths base check ≡ true → rightLengths base′ check′ ≡ true
-unfolding rightLengths
-same-lengths base check base′ check′ b c e = rw (b, c) e
+-- ---- the links
 
 -- Where the same cells are used, the links are the same.
 module _ (t t′ : Table) (size : t′ .size ≡ t .size) (same : (v : ℕ) → used (t′ .cells) v ≡ used (t .cells) v) (i : ℕ) where
@@ -67,10 +62,6 @@ module _ (t : Table) (u : ℕ) (x : Content) where
       let e = ap (λ y. y .parent) (update-at (t .cells) u x) in
       check-used chained document01 (holding t u x) u (λ o. omega arith) (rw e h) ∙ ap positive e
 
-  pub used-held : (eqb u 1 || ltb 0 (x .parent)) ≡ used (t .cells) u → (v : ℕ) → used (update (t .cells) u x) v ≡ used (t .cells) v
-  unfolding used
-  used-held e = held-each (λ v y. (eqb v 1 || ltb 0 (y .parent)) ≡ used (t .cells) v) e (λ v d. refl)
-
 module _ {t : Table} (w : Tidy t) where
   pub used-inside : (u : ℕ) → used (t .cells) u ≡ true → u ≤ t .size
   used-inside u e = ⊎-elim (λ o. omega (arith, w .some)) (λ d. w .inside u (other-parent (t .cells) u d e)) (same? u 1)
@@ -90,34 +81,43 @@ module _ {t : Table} (w : Tidy t) where
 
 module _ {base check : List ℤ} {t : Table} (s : Shown base check t) (u : ℕ) where
   -- Another base or row in a used cell.
-  pub base-stored : (x : Content) → 1 ≤ u → used (t .cells) u ≡ true → x .parent ≡ t .cells u .parent → (1 ≤ x .row → x .base ≡ 0) →
-      Shown (set base u (baseHolds x)) check (holding t u x)
-  unfolding used
-  base-stored x low e p kind =
-      let inside = used-inside (s .table) u e in
-      let same = used-held t u x (rw p refl) in
-      show (holding t u x)
-      (same-lengths base check _ check (length-set base u (baseHolds x)) refl (s .lengths))
-      (tidy-holding (s .table) u x low inside (λ (o : u ≡ 1). rw (p, o) (s .table .root-parent))
-      (λ d z. absurd (omega (arith, p, other-parent (t .cells) u d e))) kind)
-      (simp length-set (s .fits))
-      (λ i h. ⊎-elim
-      (λ (o : i ≡ u). rw (o, base-held t u x low) (getD-set-same base u (baseHolds x) (positive 0) (omega (arith, shown-long s))))
-      (λ d. rw (base-other t u x i d) (getD-set-other base u i (baseHolds x) (positive 0) d ∙ base-element s i)) (same? i u))
-      (λ i h. check-element s i ∙ sym (check-same t (holding t u x) refl same i (held-each t u x (λ v y. y .parent ≡ t .cells v .parent) p (λ v d. refl) i)))
+  module _ (x : Content) (low : 1 ≤ u) (e : used (t .cells) u ≡ true) (p : x .parent ≡ t .cells u .parent) (kind : 1 ≤ x .row → x .base ≡ 0) where
+    tidy-based-anew : Tidy (holding t u x)
+    tidy-based-anew = tidy-holding (s .table) u x low (used-inside (s .table) u e)
+        (λ (o : u ≡ 1). rw (p, o) (s .table .root-parent))
+        (λ d z. absurd (omega (arith, p, other-parent (t .cells) u d e)))
+        kind
+
+    parents-same : (v : ℕ) → update (t .cells) u x v .parent ≡ t .cells v .parent
+    parents-same = held-each t u x (λ v y. y .parent ≡ t .cells v .parent) p (λ v d. refl)
+
+    uses-same : (v : ℕ) → used (update (t .cells) u x) v ≡ used (t .cells) v
+    unfolding used
+    uses-same v = rw (parents-same v)
+
+    pub base-stored : Shown (set base u (baseHolds x)) check (holding t u x)
+    base-stored = show-again s (holding t u x) (length-set base u (baseHolds x)) refl tidy-based-anew (s .fits)
+        (λ i. stored base u i (omega (arith, shown-long s, used-inside (s .table) u e))
+        (λ (o : i ≡ u). rw o (sym (base-held t u x low)))
+        (λ d. base-element s i ∙ sym (base-other t u x i d)))
+        (λ i. check-element s i ∙ sym (check-same t (holding t u x) refl uses-same i (parents-same i)))
 
   -- Another parent for a used cell.
-  pub parent-stored : (q : ℕ) → 2 ≤ u → 1 ≤ t .cells u .parent → 1 ≤ q →
-      Shown base (set check u (positive q)) (holding t u (record { parent = q; base = t .cells u .base; row = t .cells u .row }))
-  unfolding used baseHolds
-  parent-stored q far p h =
-      let x : Content = record { parent = q; base = t .cells u .base; row = t .cells u .row } in
-      let same = used-held t u x (rw (lt-ltb 0 q h, lt-ltb 0 (t .cells u .parent) p) refl) in
-      show (holding t u x)
-      (same-lengths base check base _ refl (length-set check u (positive q)) (s .lengths))
-      (tidy-holding (s .table) u x (omega arith) (s .table .inside u p) (λ o. absurd (omega arith)) (λ d z. absurd (omega arith)) (s .table .one-kind u))
-      (s .fits)
-      (λ i l. base-element s i ∙ sym (base-kept t u x refl i))
-      (λ i l. ⊎-elim
-      (λ (o : i ≡ u). rw o (getD-set-same check u (positive q) (positive 0) (omega (arith, shown-long s, shown-lengths s, s .table .inside u p)) ∙ sym (check-held t u x far h)))
-      (λ d. getD-set-other check u i (positive q) (positive 0) d ∙ check-element s i ∙ sym (check-same t (holding t u x) refl same i (ap (λ y. y .parent) (update-off (t .cells) u x i d)))) (same? i u))
+  module _ (q : ℕ) (far : 2 ≤ u) (p : 1 ≤ t .cells u .parent) (h : 1 ≤ q) where
+    abbrev Y : Content
+    Y = record { parent = q; base = t .cells u .base; row = t .cells u .row }
+
+    still-used : (v : ℕ) → used (update (t .cells) u Y) v ≡ used (t .cells) v
+    unfolding used
+    still-used = held-each t u Y (λ v y. (eqb v 1 || ltb 0 (y .parent)) ≡ used (t .cells) v)
+        (rw (lt-ltb 0 q h, lt-ltb 0 (t .cells u .parent) p) refl) (λ v d. refl)
+
+    pub parent-stored : Shown base (set check u (positive q)) (holding t u Y)
+    unfolding baseHolds
+    parent-stored = show-again s (holding t u Y) refl (length-set check u (positive q))
+        (tidy-holding (s .table) u Y (omega arith) (s .table .inside u p) (λ o. absurd (omega arith)) (λ d z. absurd (omega arith)) (s .table .one-kind u))
+        (s .fits)
+        (λ i. base-element s i ∙ sym (base-kept t u Y refl i))
+        (λ i. stored check u i (omega (arith, shown-long s, shown-lengths s, s .table .inside u p))
+        (λ (o : i ≡ u). rw o (sym (check-held t u Y far h)))
+        (λ d. check-element s i ∙ sym (check-same t (holding t u Y) refl still-used i (ap (λ y. y .parent) (update-off (t .cells) u Y i d)))))

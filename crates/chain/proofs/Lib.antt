@@ -1,8 +1,8 @@
 -- The next free cell, and what arrays hold that show a table.
 pub mod NextFree
 pub mod Shown
-pub mod Holding
 pub mod Stores
+pub mod Holding
 -- The search.
 pub mod TakenCells
 pub mod Seeking

@@ -1,14 +1,13 @@
 -- What two arrays hold that show a table, element by element; and arrays that hold this show it. Assumes nothing.
-use mathlib.Core.Path.{_≡_, refl, sym, ap, ap₂, _∙_}
+use mathlib.Core.Path.{_≡_, sym, ap, _∙_}
 use mathlib.Core.Logic.{_≢_, inl, ⊎-elim}
-use mathlib.Core.Bool.{Bool, true, false, not, _&&_}
+use mathlib.Core.Bool.{true, false, not}
 use mathlib.Core.List.{List}
-use Prim.Native.Nat.{ℕ, suc, _≤_, _<_}
+use Prim.Native.Nat.{ℕ, _≤_, _<_}
 use native.Mathlib.Omega.{arith}
 use lib.ListN.{length, getD}
 use lib.Seq.{ext-getD}
 use lib.IntN.{ℤ}
-use lib.Dec.{leb}
 use borrow.Author.Tests.{le-leb, lt-leb, not-true}
 use Rattle.numbers.specs.Stored.{positive, plusOf, minusOf, plusAt, minusAt}
 use Rattle.numbers.proofs.Laws.{minus-negative}
@@ -21,7 +20,7 @@ use Rattle.tree.specs.Renders.{Tidy}
 use Rattle.tree.proofs.UsedCells.{is-used, parent-used, parentless-unused, unused-other, unused-parent, by-use}
 use Rattle.tree.proofs.TidyTables.{tidy-past}
 use Rattle.tree.proofs.Elements.{check-link, base-length, base-at, base-plus, base-minus, check-length, check-at, check-plus}
-use Rattle.chain.specs.Search.{takenAt, Next, Chain}
+use Rattle.chain.specs.Search.{takenAt, Chain}
 use Rattle.chain.specs.Edits.{Shown}
 use Rattle.chain.proofs.NextFree.{unused, next-free}
 

@@ -2,7 +2,7 @@
 -- elements. Assumes nothing.
 use mathlib.Core.Path.{_≡_, sym, ap, _∙_}
 use mathlib.Core.Logic.{_≢_, ⊎-elim}
-use mathlib.Core.Bool.{false}
+use mathlib.Core.Bool.{true, false}
 use mathlib.Core.List.{List}
 use Prim.Native.Nat.{ℕ, _≤_, _<_}
 use native.Mathlib.Omega.{arith}
@@ -11,7 +11,7 @@ use lib.Seq.{getD-set-same, getD-set-other}
 use lib.IntN.{ℤ}
 use Rattle.numbers.specs.Stored.{positive, negative}
 use Rattle.numbers.proofs.Cases.{same?}
-use Rattle.rules.specs.WhatTheIndexDoes.{document01, lastCell}
+use Rattle.rules.specs.WhatTheIndexDoes.{document01, rightLengths, lastCell}
 use Rattle.rules.specs.Table.{Table, used}
 use Rattle.rules.specs.Rendering.{chained, nextFree, baseOf, checkOf}
 use Rattle.rules.proofs.Lengths.{lengths-within}
@@ -19,7 +19,11 @@ use Rattle.tree.specs.Renders.{Tidy}
 use Rattle.tree.proofs.Elements.{check-link}
 use Rattle.chain.specs.Edits.{Shown}
 use Rattle.chain.proofs.Shown.{shown-lengths, show}
-use Rattle.chain.proofs.Holding.{same-lengths}
+
+same-lengths : (base check base′ check′ : List ℤ) → length base′ ≡ length base → length check′ ≡ length check →
+    rightLengths base check ≡ true → rightLengths base′ check′ ≡ true
+unfolding rightLengths
+same-lengths base check base′ check′ b c e = rw (b, c) e
 
 -- Each element i is f i; past the end it is 0.
 abbrev pub Holds : List ℤ → (ℕ → ℤ) → Type 0

@@ -2,7 +2,7 @@
 -- leaves the rendering of the table with that one thing changed.
 use mathlib.Core.Path.{_≡_}
 use mathlib.Core.Logic.{_≢_}
-use mathlib.Core.Bool.{true, false}
+use mathlib.Core.Bool.{false}
 use mathlib.Core.List.{List, _∷_}
 use Prim.Native.Nat.{ℕ, _+_, _≤_, _<_, max}
 use lib.ListN.{length, take}
@@ -13,7 +13,7 @@ use Rattle.rules.specs.Rendering.{chained}
 use Rattle.tree.specs.Soundness.{Tree}
 use Rattle.tree.specs.Renders.{Shows}
 use Rattle.tree.specs.Moved.{Fit}
-use Rattle.tree.specs.MovingInTurn.{under, hop}
+use Rattle.tree.specs.MovingInTurn.{under}
 use Rattle.tree.specs.Members.{Among}
 
 -- The arrays are document 01's rendering of t, a tidy table.

@@ -1,34 +1,31 @@
 -- An insertion into a table known to be sound: PRESENT where the identifier has a row; otherwise it begins at the node where the walk
 -- stopped, and what is left there is what the command leaves. Assumes nothing.
-use mathlib.Core.Path.{_≡_, refl, sym, ap, _∙_}
-use mathlib.Core.Logic.{⊎-elim}
+use mathlib.Core.Path.{_≡_, refl, sym, _∙_}
 use mathlib.Core.Bool.{Bool, true, false, cond}
-use mathlib.Core.List.{List, [], _∷_, map}
-use Prim.Native.Nat.{ℕ, zero, suc, _-_, _≤_}
+use mathlib.Core.List.{List, map}
+use Prim.Native.Nat.{ℕ, _-_, _≤_}
 use native.Mathlib.Omega.{arith}
 use lib.ListN.{length, take, drop, length-drop}
 use lib.Seq.{take-all}
 use lib.IntN.{ℤ}
-use lib.Dec.{leb}
-use borrow.Author.Tests.{lt-ltb, leb-true}
+use borrow.Author.Tests.{lt-ltb}
 use Rattle.rules.specs.declared.Answer.{Answer}
 use Rattle.rules.specs.declared.Answer.the-variants.{Done, NoRoom}
 use Rattle.rules.specs.Answers.{present}
-use Rattle.rules.specs.WhatTheIndexDoes.{Profile, codeOf, document01, coded, lastCell}
-use Rattle.rules.specs.Table.{Cells, Table, lookup}
-use Rattle.rules.specs.ASoundTable.{sound, sizeAt}
+use Rattle.rules.specs.WhatTheIndexDoes.{codeOf, document01, coded, lastCell}
+use Rattle.rules.specs.Table.{Table, lookup}
 use Rattle.rules.specs.Rendering.{chained, readCells, readTable}
 use Rattle.rules.specs.Finding.{walkAt, leafAfter, leafAt, rowOf, rowFound}
 use Rattle.rules.specs.Insertion.{Course, extend, inserted}
 use Rattle.rules.specs.Commands.{insert, carriedOut}
 use Rattle.rules.specs.Calls.{stored, soundEdit}
-use Rattle.rules.proofs.Choices.{both}
 use Rattle.rules.proofs.Codes.{document01-round-trip}
 use Rattle.rules.proofs.Lengths.{lengths-within}
 use Rattle.tree.specs.Renders.{Renders}
 use Rattle.tree.specs.Labels.{firstLabel, furtherLabels}
 use Rattle.tree.proofs.Trees.{tree-tidy}
 use Rattle.tree.proofs.ChildCodes.{based-near}
+use Rattle.tree.proofs.Labels.{label-low}
 use Rattle.tree.proofs.Identifiers.{identifier-coded}
 use Rattle.tree.proofs.SevenRules.{rules-render}
 use Rattle.tree.proofs.Finding.{found-row}
@@ -36,16 +33,8 @@ use Rattle.tree.proofs.Stopping.{Stops, leaf-none, walk-begins}
 use Rattle.chain.specs.Edits.{Shown}
 use Rattle.index.specs.Promised.{Edits, Reaches}
 use Rattle.index.specs.Inserting.{Inserts, Extends, Extended}
-use Rattle.index.proofs.Promises.{reached-is}
+use Rattle.index.proofs.Promises.{reached-is, row-reached}
 use Rattle.index.proofs.Editing.{shown-same, stored-done, stored-refused}
-
--- The first label of what is left of characters that have codes.
-label-low : (P : Profile) (key : List ℕ) (m : ℕ) → coded P key ≡ true → 1 ≤ firstLabel P (drop m key)
-unfolding firstLabel coded
-label-low P [] zero k = omega arith
-label-low P [] (suc m) k = omega arith
-label-low P (b ∷ bs) zero k = leb-true 1 (P .code b) (both (leb 1 (P .code b)) (coded P bs) k .0)
-label-low P (b ∷ bs) (suc m) k = label-low P bs m (both (leb 1 (P .code b)) (coded P bs) k .1)
 
 -- What is left of a text, as a part of its slice.
 part-left : (key : List ℕ) (m : ℕ) → take (length key - m) (drop m key) ≡ drop m key
@@ -79,12 +68,8 @@ module _ {base check : List ℤ} {key : List ℕ} {row : ℕ} (i : Inserts base 
   -- n is the row after a walk along the identifier.
   module _ {cell met n : ℕ} (w : Reaches (walkAt base check 1 (map codeOf key)) cell met)
       (is : n ≡ rowOf base (leafAfter base check (length key) (record { cell = cell; met = met }))) where
-    row-found : n ≡ rowOf base (leafAfter base check (length key) (walkAt base check 1 (map codeOf key)))
-    row-found = is ∙ ap (λ v. rowOf base (leafAfter base check (length key) v)) (reached-is w)
-
     held-is : lookup document01 (readCells base check) key ≡ n
-    unfolding rowFound leafAt
-    held-is = sym (found-row document01 base check (i .whole) key coded-key) ∙ sym row-found
+    held-is = sym (found-row document01 base check (i .whole) key coded-key) ∙ sym (row-reached base check key w is)
 
     pub is-present : 1 ≤ n → edit (present n) base check
     unfolding soundEdit carriedOut readTable
@@ -94,9 +79,9 @@ module _ {base check : List ℤ} {key : List ℕ} {row : ℕ} (i : Inserts base 
 
     module _ (z : n ≡ 0) where
       stops : Stops renders (lastCell base) row 1 key (record { cell = cell; met = met })
-      unfolding readTable
+      unfolding readTable rowFound leafAt
       stops = rw (reached-is w) (walk-begins renders document01-round-trip (lastCell base) row 1 key coded-key (renders .table .tree .root-base)
-          (leaf-none renders (length key) _ (sym row-found ∙ z)))
+          (leaf-none renders (length key) _ (sym (row-reached base check key w is) ∙ z)))
 
       abbrev rest : List ℕ
       rest = take (length key - met) (drop met key)

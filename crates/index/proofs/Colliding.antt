@@ -1,16 +1,15 @@
 -- A node that collides: what the search, the move of its children and the way back are asked, and what they leave. Assumes nothing.
-use mathlib.Core.Path.{_≡_, refl, sym, ap, _∙_, subst}
-use mathlib.Core.Logic.{inl, inr, ⊎-elim}
+use mathlib.Core.Path.{_≡_, refl, sym, _∙_}
+use mathlib.Core.Logic.{inl, inr}
 use mathlib.Core.Bool.{Bool, true, false}
-use mathlib.Core.List.{List, [], _∷_}
-use Prim.Native.Nat.{ℕ, _+_, _≤_, _<_, max}
+use mathlib.Core.List.{List, _∷_}
+use Prim.Native.Nat.{ℕ, _+_, _≤_, max}
 use native.Mathlib.Omega.{arith}
 use lib.ListN.{length}
 use lib.IntN.{ℤ}
 use Rattle.numbers.specs.Stored.{plusAt}
 use Rattle.rules.specs.WhatTheIndexDoes.{GREATEST, document01, lastCell}
 use Rattle.rules.specs.Table.{Cells, Table, used, childCodes}
-use Rattle.rules.specs.Placement.{greatestOf}
 use Rattle.rules.specs.Insertion.{relocate, Course, grow}
 use Rattle.rules.proofs.Codes.{document01-round-trip}
 use Rattle.rules.proofs.Lengths.{lengths-within}
@@ -18,8 +17,9 @@ use Rattle.tree.specs.Soundness.{Tree}
 use Rattle.tree.specs.Moved.{Fit}
 use Rattle.tree.specs.Labels.{firstLabel, furtherLabels}
 use Rattle.tree.specs.Members.{Among}
+use Rattle.tree.proofs.Labels.{label-high}
 use Rattle.tree.proofs.UsedCells.{parentless-unused}
-use Rattle.tree.proofs.Trees.{based-pos, based-used, tree-sized, past-unused, step-used}
+use Rattle.tree.proofs.Trees.{based-pos, tree-sized, past-unused, step-used}
 use Rattle.tree.proofs.Steps.{next-step}
 use Rattle.tree.proofs.Placement.{among-greatest}
 use Rattle.tree.proofs.ChildCodes.{codes-lead}
@@ -27,14 +27,10 @@ use Rattle.tree.proofs.Relocation.{codes-moved}
 use Rattle.tree.proofs.ThereAndBack.{fit-back, relocate-back}
 use Rattle.tree.proofs.Collisions.{collide-fit, collide-tree, collide-base, collide-place}
 use Rattle.chain.specs.Edits.{Shown, sized, celled, Widens, Shrinks, Relocates}
-use Rattle.index.specs.Inserting.{Extends, MovesAndGrows, Grows, Grown, leaves}
+use Rattle.index.specs.Inserting.{MovesAndGrows, Grows, Grown}
 use Rattle.chain.proofs.Shown.{shown-small, shown-size, shown-base}
+use Rattle.index.proofs.Extending.{s-inside}
 use Rattle.index.proofs.Leaving.{fits-left, unfit-left, left-fits, left-unfit}
-
-pub label-high : (rest : List ℕ) → firstLabel document01 rest ≤ GREATEST
-unfolding firstLabel
-label-high [] = omega arith
-label-high (b ∷ bs) = document01-round-trip .range b
 
 module _ {base check : List ℤ} {s : ℕ} {rest : List ℕ} {row q far : ℕ} {codes : List ℕ} {t : Table} (m : MovesAndGrows base check s rest row q far codes t) where
   abbrev T : Cells
@@ -71,9 +67,6 @@ module _ {base check : List ℤ} {s : ℕ} {rest : List ℕ} {row q far : ℕ} {
   unfolding relocate
   codes-then = m .codes-are ∙ sym (codes-moved tree fit GREATEST)
 
-  s-inside : s ≤ size
-  s-inside = ⊎-elim (λ e. omega (arith, tree .some)) (tree .inside s) (based-used tree s (m .extends .based))
-
   codes-inside : (d : ℕ) → Among d codes → q + d ≤ wide
   codes-inside d a = omega (arith, m .far-is, among-greatest (c ∷ codes) d (inr a))
 
@@ -85,7 +78,7 @@ module _ {base check : List ℤ} {s : ℕ} {rest : List ℕ} {row q far : ℕ} {
 
   cell-then : used R (R s .base + c) ≡ false
   cell-then =
-      let p = rw (← m .codes-are, ← m .placed-is) at (collide-place tree s c (m .extends .based) (m .extends .nowhere) (m .extends .low) (label-high rest)) in
+      let p = rw (← m .codes-are, ← m .placed-is) at (collide-place tree s c (m .extends .based) (m .extends .nowhere) (m .extends .low) (label-high document01 document01-round-trip (omega arith) rest)) in
       parentless-unused R (R s .base + c) (λ e. omega (arith, base-then, fit .new, m .extends .low)) (p .clear)
 
   base-read : {b : ℕ} → b ≡ plusAt base s → b ≡ T s .base
@@ -116,7 +109,7 @@ module _ {base check : List ℤ} {s : ℕ} {rest : List ℕ} {row q far : ℕ} {
     grows len shown = record {
       shown = shown;
       some = based-pos tree s (m .extends .based);
-      inside = omega (arith, s-inside);
+      inside = omega (arith, s-inside (m .extends));
       based = rw base-then (fit .new);
       unused = cell-then;
       fits = omega (arith, base-then, m .far-is, m .fits, among-greatest (c ∷ codes) c (inl refl), lengths-within base check (m .extends .shown .lengths) .0);

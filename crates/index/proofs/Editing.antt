@@ -8,11 +8,11 @@ use lib.IntN.{ℤ}
 use Rattle.rules.specs.declared.Answer.{Answer}
 use Rattle.rules.specs.declared.Answer.the-variants.{Size, Key, Number, Damaged}
 use Rattle.rules.specs.Answers.{isDone}
-use Rattle.rules.specs.WhatTheIndexDoes.{document01, rightLengths, lastCell}
+use Rattle.rules.specs.WhatTheIndexDoes.{document01, rightLengths}
 use Rattle.rules.specs.Table.{Table}
 use Rattle.rules.specs.ASoundTable.{sound}
 use Rattle.rules.specs.Rendering.{chained, renderBase, renderCheck, readTable}
-use Rattle.rules.specs.Commands.{Command, Outcome, keyAllowed, numberAllowed, answered}
+use Rattle.rules.specs.Commands.{Command, keyAllowed, numberAllowed, answered}
 use Rattle.rules.specs.Calls.{stored, soundEdit, editCall}
 use Rattle.chain.specs.Edits.{Shown}
 use Rattle.index.specs.Promised.{Edits}

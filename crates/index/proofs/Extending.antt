@@ -1,7 +1,7 @@
 -- The node at which the walk stopped: whether it collides, and what is then asked and left. Assumes nothing.
-use mathlib.Core.Path.{_≡_, refl, sym, ap, ap₂, _∙_, subst}
+use mathlib.Core.Path.{_≡_, ap, ap₂, _∙_, subst}
 use mathlib.Core.Logic.{_≢_, ⊎-elim}
-use mathlib.Core.Bool.{Bool, true, false, cond, _||_, or-true}
+use mathlib.Core.Bool.{Bool, true, false, _||_, or-true}
 use mathlib.Core.List.{List}
 use Prim.Native.Nat.{ℕ, _+_, _≤_, _<_}
 use native.Mathlib.Omega.{arith}
@@ -16,7 +16,6 @@ use Rattle.rules.specs.WhatTheIndexDoes.{GREATEST, document01, lastCell}
 use Rattle.rules.specs.Table.{Cells, Table, used}
 use Rattle.rules.specs.Insertion.{Course, grow, collide, extend}
 use Rattle.rules.proofs.Lengths.{lengths-within}
-use Rattle.tree.specs.Soundness.{Tree}
 use Rattle.tree.specs.Labels.{firstLabel, furtherLabels}
 use Rattle.tree.proofs.UsedCells.{parent-used, parentless-unused}
 use Rattle.tree.proofs.Trees.{based-pos, based-used}

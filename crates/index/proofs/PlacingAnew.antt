@@ -3,7 +3,7 @@
 use mathlib.Core.Path.{_≡_, refl, sym, ap, _∙_, subst}
 use mathlib.Core.Logic.{inl, inr}
 use mathlib.Core.Bool.{Bool, true, false, _&&_}
-use mathlib.Core.List.{List, [], _∷_}
+use mathlib.Core.List.{List, _∷_}
 use Prim.Native.Nat.{ℕ, _+_, _-_, _≤_, _<_, max}
 use native.Mathlib.Omega.{arith}
 use lib.ListN.{length}
@@ -16,10 +16,12 @@ use Rattle.rules.specs.WhatTheIndexDoes.{GREATEST, document01, lastCell}
 use Rattle.rules.specs.Table.{Cells, Table, used, childCodes}
 use Rattle.rules.specs.Placement.{greatestOf, placed, fits}
 use Rattle.rules.specs.Insertion.{relocate, Course, grow, collide}
+use Rattle.rules.proofs.Codes.{document01-round-trip}
 use Rattle.rules.proofs.Lengths.{lengths-within}
 use Rattle.rules.proofs.Texts.{behind}
 use Rattle.tree.specs.Labels.{firstLabel, furtherLabels}
 use Rattle.tree.specs.Members.{Among}
+use Rattle.tree.proofs.Labels.{label-high}
 use Rattle.tree.proofs.Trees.{past-unused}
 use Rattle.tree.proofs.Placement.{greatest-within, placed-within}
 use Rattle.tree.proofs.ChildCodes.{codes-lead}
@@ -27,7 +29,6 @@ use Rattle.chain.specs.Search.{Codes}
 use Rattle.index.specs.Inserting.{PlacesAnew, MovesAndGrows, Grown, Extended}
 use Rattle.chain.proofs.Shown.{shown-small}
 use Rattle.index.proofs.Leaving.{fits-left, unfit-left, done, no-room}
-use Rattle.index.proofs.Colliding.{label-high}
 
 -- Behind the first of some codes.
 behind-first : (c : ℕ) (cs : List ℕ) → behind (c ∷ cs) ≡ cs
@@ -49,7 +50,7 @@ module _ {base check : List ℤ} {s : ℕ} {rest : List ℕ} {row : ℕ} {codes 
   each-code d m = go (rw (a .codes-are) at m)
     where
       go : Among d (c ∷ childCodes T s GREATEST) → (1 ≤ d) × (d ≤ GREATEST)
-      go (inl e) = (omega (arith, a .extends .low), omega (arith, label-high rest))
+      go (inl e) = (omega (arith, a .extends .low), omega (arith, label-high document01 document01-round-trip (omega arith) rest))
       go (inr k) = let (low, high, n) = codes-lead T s GREATEST d k in (low, high)
 
   pub anew-codes : Codes codes

@@ -17,7 +17,7 @@ use Rattle.rules.specs.WhatTheIndexDoes.{END, Profile, RoundTrip, coded, isIden
 use Rattle.rules.specs.Table.{Cells, next, walk, node, lookup}
 use Rattle.rules.specs.ASoundTable.{sizeAt, sound}
 use Rattle.rules.specs.Rendering.{Kind, readCells, readTable}
-use Rattle.rules.specs.Finding.{Reached, rowOf, leads, nextAt, walkAt, leafAfter, leafAt, rowFound}
+use Rattle.rules.specs.Finding.{rowOf, leads, nextAt, walkAt, leafAfter, leafAt, rowFound}
 use Rattle.rules.specs.Listing.{Entry, entries}
 use Rattle.rules.specs.Commands.{find, keyAllowed, numberAllowed}
 use Rattle.rules.specs.Calls.{findCall}

@@ -1,5 +1,7 @@
 //! `cost make KIND LENGTH FILE` writes a full table, made by the second program; `cost audit FILE` and `cost find FILE KEY`
 //! make one call of the proved program on it, for `run` to count. A table's file has base, then check, each number as 4 bytes.
+//! `cost insert KIND COUNT LENGTH` makes inserts of the proved program from a fresh table on, and compares the table with the one
+//! that the second program makes.
 
 use second::sheets::{line, Random};
 use std::fs;
@@ -14,6 +16,15 @@ extern "C" {
         check_len: usize,
         key: *const u8,
         key_len: usize,
+    ) -> u64;
+    fn cost_insert(
+        base: *mut i32,
+        base_len: usize,
+        check: *mut i32,
+        check_len: usize,
+        key: *const u8,
+        key_len: usize,
+        row: u32,
     ) -> u64;
 }
 
@@ -33,8 +44,37 @@ fn main() {
             let row = unsafe { cost_find(b.as_ptr(), b.len(), c.as_ptr(), c.len(), k, n) };
             println!("row {row}");
         }
+        ["insert", kind, count, length] => {
+            insert(kind, count.parse().unwrap(), length.parse().unwrap())
+        }
         _ => exit(2),
     }
+}
+
+/// Inserts so many identifiers, in order or shuffled, into a fresh table, which stays sound.
+fn insert(kind: &str, count: u32, length: usize) {
+    let (mut base, mut check) = (vec![0; length], vec![0; length]);
+    second::fresh(&mut base, &mut check);
+    let (mut second_base, mut second_check) = (base.clone(), check.clone());
+    let (b, c) = (&mut base[..], &mut check[..]);
+    for n in order(kind, count) {
+        let (key, row) = (format!("nl-{n:06}"), n + 1);
+        let (k, len) = (key.as_ptr(), key.len());
+        let done =
+            unsafe { cost_insert(b.as_mut_ptr(), b.len(), c.as_mut_ptr(), c.len(), k, len, row) };
+        assert_eq!(done, 0);
+    }
+    let lines = order(kind, count).map(|n| line(1, format!("nl-{n:06}").as_bytes(), n + 1));
+    let sheet = lines.collect::<Vec<_>>().join(&b'\n');
+    second::run(&mut second_base, &mut second_check, &sheet, &mut vec![0; 11 * count as usize]);
+    assert!(base == second_base && check == second_check);
+    println!("cells {}", base[0]);
+}
+
+/// The numbers below count, ascending or in a fixed other order.
+fn order(kind: &str, count: u32) -> impl Iterator<Item = u32> {
+    let step = if kind == "shuffled" { 4217 } else { 1 };
+    (0..count).map(move |n| (n * step) % count)
 }
 
 /// Inserts identifiers until they no longer fit.

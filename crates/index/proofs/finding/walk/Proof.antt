@@ -1,14 +1,13 @@
 -- `walk` walks along the identifier. The loop's invariant: the walk along the rest, after the characters met, is the walk along
 -- the whole. The measure is the length of the rest. Assumes nothing.
 use mathlib.Core.Path.{_≡_, refl, ap}
-use mathlib.Core.List.{List, _∷_, map}
-use Prim.Native.Nat.{ℕ, suc, _+_, _≤_, _<_}
+use mathlib.Core.List.{List, map}
+use Prim.Native.Nat.{ℕ, _+_, _≤_, _<_}
 use native.Mathlib.Nat.{add-zero, add-suc, suc-add}
 use native.Mathlib.Numerals.{add-one}
 use native.Mathlib.Omega.{arith}
 use lib.ListN.{length, getD}
 use lib.IntN.{ℤ}
-use borrow.Author.Tests.{ne-eqb}
 use Rattle.rules.specs.WhatTheIndexDoes.{codeOf}
 use Rattle.rules.specs.Finding.{nextAt, walkAt}
 use Rattle.rules.proofs.Walks.{walk-stops, walk-goes-on}
