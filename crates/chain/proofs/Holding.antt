@@ -28,11 +28,11 @@ use Rattle.chain.proofs.Stores.{stored, show-again}
 
 -- Where the same cells are used, the links are the same.
 module _ (t t′ : Table) (size : t′ .size ≡ t .size) (same : (v : ℕ) → used (t′ .cells) v ≡ used (t .cells) v) (i : ℕ) where
-  pub next-same : nextFree t′ i ≡ nextFree t i
+  next-same : nextFree t′ i ≡ nextFree t i
   unfolding nextFree
   next-same = rw size (first-same _ _ (t .size) (suc i) (λ v h. rw (same v)))
 
-  pub check-same : t′ .cells i .parent ≡ t .cells i .parent → checkOf chained document01 t′ i ≡ checkOf chained document01 t i
+  check-same : t′ .cells i .parent ≡ t .cells i .parent → checkOf chained document01 t′ i ≡ checkOf chained document01 t i
   unfolding checkOf
   check-same e = rw (next-same, same i, e, size)
 

@@ -19,7 +19,7 @@ use Rattle.rules.proofs.Lengths.{lengths-same, lengths-within}
 use Rattle.tree.specs.Renders.{Tidy}
 use Rattle.tree.proofs.UsedCells.{is-used, parent-used, parentless-unused, unused-other, unused-parent, by-use}
 use Rattle.tree.proofs.TidyTables.{tidy-past}
-use Rattle.tree.proofs.Elements.{check-link, base-length, base-at, base-plus, base-minus, check-length, check-at, check-plus}
+use Rattle.tree.proofs.Elements.{check-link, base-length, base-at, base-plus, check-length, check-at, check-plus}
 use Rattle.chain.specs.Search.{takenAt, Chain}
 use Rattle.chain.specs.Edits.{Shown}
 use Rattle.chain.proofs.NextFree.{unused, next-free}
@@ -51,13 +51,10 @@ module _ {base check : List ℤ} {t : Table} (s : Shown base check t) where
   pub shown-base : (u : ℕ) → 1 ≤ u → plusAt base u ≡ t .cells u .base
   shown-base u h = ap (λ xs. plusAt xs u) (s .base-is) ∙ base-plus t (s .table) (length base) shown-long u h
 
-  pub shown-row : (u : ℕ) → 1 ≤ u → minusAt base u ≡ t .cells u .row
-  shown-row u h = ap (λ xs. minusAt xs u) (s .base-is) ∙ base-minus t (s .table) (length base) shown-long u h
-
   pub shown-parent : (u : ℕ) → u ≢ 1 → plusAt check u ≡ t .cells u .parent
   shown-parent u d = ap (λ xs. plusAt xs u) (s .check-is) ∙ check-plus chained document01 t (s .table) (length base) shown-long u d
 
-  pub shown-root : plusAt check 1 ≡ 1
+  shown-root : plusAt check 1 ≡ 1
   unfolding checkOf
   shown-root = ap plusOf (check-element 1)
 

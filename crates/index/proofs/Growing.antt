@@ -71,7 +71,7 @@ module _ {base check : List ℤ} {s : ℕ} {rest : List ℕ} {row : ℕ} {t : Ta
 -- ---- the course
 
 -- The course of what is left of an identifier, from the node s.
-abbrev pub courseFrom : ℕ → Table → ℕ → List ℕ → ℕ → Course
+abbrev courseFrom : ℕ → Table → ℕ → List ℕ → ℕ → Course
 courseFrom last t s rest row = grow last (t .cells) (t .size) s (firstLabel document01 rest) (furtherLabels document01 rest) row
 
 -- The cell u, to which the first label leads, is claimed.

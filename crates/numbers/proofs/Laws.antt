@@ -1,14 +1,13 @@
 -- Laws of `plusAt` and `minusAt`: with these no crate above reasons about a sign. Assumes nothing.
 use mathlib.Core.Path.{_≡_, refl, sym, ap, _∙_}
-use mathlib.Core.Logic.{_≢_, ⊎-elim}
+use mathlib.Core.Logic.{⊎-elim}
 use mathlib.Core.List.{List}
 use Prim.Native.Nat.{ℕ, zero, suc, _≤_, _<_}
 use native.Mathlib.Omega.{arith}
-use lib.ListN.{length, getD, set, List·getD-eq-default}
-use lib.Seq.{getD-set-same, getD-set-other, ext-getD}
+use lib.ListN.{length, getD, List·getD-eq-default}
 use lib.IntN.{ℤ, pos, negsuc}
 use Rattle.numbers.proofs.Cases.{lt-or-ge}
-use Rattle.numbers.specs.Stored.{negative, plusOf, minusOf, plusAt, minusAt, Reads}
+use Rattle.numbers.specs.Stored.{negative, plusOf, minusOf, Reads}
 
 -- ---- one number
 
@@ -57,25 +56,3 @@ module _ (f : ℤ → ℕ) (nought : f (pos 0) ≡ 0) (xs : List ℤ) (i : ℕ) 
   -- An element that is not 0 lies within the array.
   pub at-inside : 1 ≤ f (getD xs i (pos 0)) → i < length xs
   at-inside h = ⊎-elim (λ l. l) (λ l. absurd (omega (arith, at-past l))) (lt-or-ge i (length xs))
-
--- ---- after a store
-
-module _ (f : ℤ → ℕ) (xs : List ℤ) (i : ℕ) (z : ℤ) where
-  pub at-same : i < length xs → f (getD (set xs i z) i (pos 0)) ≡ f z
-  at-same h = ap f (getD-set-same xs i z (pos 0) h)
-
-  pub at-other : (j : ℕ) → j ≢ i → f (getD (set xs i z) j (pos 0)) ≡ f (getD xs j (pos 0))
-  at-other j d = ap f (getD-set-other xs i j z (pos 0) d)
-
-module _ (xs : List ℤ) (i n : ℕ) (h : i < length xs) where
-  pub plusAt-negative : plusAt (set xs i (negative n)) i ≡ 0
-  plusAt-negative = at-same plusOf xs i (negative n) h ∙ plus-negative n
-
-  pub minusAt-negative : minusAt (set xs i (negative n)) i ≡ n
-  minusAt-negative = at-same minusOf xs i (negative n) h ∙ minus-negative n
-
--- ---- arrays
-
--- Two arrays of one length whose elements read alike on both sides are one.
-pub same-sides : (xs ys : List ℤ) → length xs ≡ length ys → ((i : ℕ) → i < length xs → (plusAt xs i ≡ plusAt ys i) × (minusAt xs i ≡ minusAt ys i)) → xs ≡ ys
-same-sides xs ys e h = ext-getD (pos 0) xs ys e (λ i l. sides (getD xs i (pos 0)) (getD ys i (pos 0)) (h i l .0) (h i l .1))

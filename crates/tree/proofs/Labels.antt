@@ -14,7 +14,7 @@ use Rattle.rules.proofs.Texts.{behind, first-and-rest, none-left}
 use Rattle.tree.specs.Labels.{firstLabel, furtherLabels}
 
 module _ (P : Profile) where
-  pub labels-split : (text : List ℕ) → labels P text ≡ firstLabel P text ∷ furtherLabels P text
+  labels-split : (text : List ℕ) → labels P text ≡ firstLabel P text ∷ furtherLabels P text
   unfolding labels firstLabel furtherLabels
   labels-split [] = refl
   labels-split (b ∷ bs) = refl
