@@ -19,6 +19,7 @@ use Rattle.rules.proofs.Lengths.{lengths-same, lengths-within}
 use Rattle.tree.specs.Renders.{Tidy}
 use Rattle.tree.proofs.UsedCells.{is-used, parent-used, parentless-unused, unused-other, unused-parent, by-use}
 use Rattle.tree.proofs.TidyTables.{tidy-past}
+use Rattle.tree.proofs.ToRules.{rendered-long}
 use Rattle.tree.proofs.Elements.{check-link, base-length, base-at, base-plus, check-length, check-at, check-plus}
 use Rattle.chain.specs.Search.{takenAt, Chain}
 use Rattle.chain.specs.Edits.{Shown}
@@ -31,7 +32,7 @@ module _ {base check : List ℤ} {t : Table} (s : Shown base check t) where
   -- ---- the size
 
   pub shown-long : t .size < length base
-  shown-long = omega (arith, s .fits, lengths-within base check (s .lengths) .0)
+  shown-long = rendered-long s
 
   pub shown-small : t .size < 65536
   shown-small = omega (arith, s .fits, lengths-within base check (s .lengths))

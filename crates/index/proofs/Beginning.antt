@@ -23,11 +23,10 @@ use Rattle.rules.proofs.Codes.{document01-round-trip}
 use Rattle.rules.proofs.Lengths.{lengths-within}
 use Rattle.tree.specs.Renders.{Renders}
 use Rattle.tree.specs.Labels.{firstLabel, furtherLabels}
-use Rattle.tree.proofs.Trees.{tree-tidy}
 use Rattle.tree.proofs.ChildCodes.{based-near}
 use Rattle.tree.proofs.Labels.{label-low}
 use Rattle.tree.proofs.Identifiers.{identifier-coded}
-use Rattle.tree.proofs.SevenRules.{rules-render}
+use Rattle.tree.proofs.SevenRules.{rules-render, sound-shows}
 use Rattle.tree.proofs.Finding.{found-row}
 use Rattle.tree.proofs.Stopping.{Stops, leaf-none, walk-begins}
 use Rattle.chain.specs.Edits.{Shown}
@@ -51,13 +50,7 @@ module _ {base check : List ℤ} {key : List ℕ} {row : ℕ} (i : Inserts base 
   long = lengths-within base check (renders .lengths) .1
 
   shown : Shown base check t
-  shown = record {
-    lengths = renders .lengths;
-    table = tree-tidy (renders .table .tree);
-    fits = renders .fits;
-    base-is = renders .base-is;
-    check-is = renders .check-is;
-  }
+  shown = sound-shows renders
 
   coded-key : coded document01 key ≡ true
   coded-key = identifier-coded document01 key (i .identifier)

@@ -13,7 +13,7 @@ use Rattle.rules.specs.ASoundTable.{holds, home, usedAt, rule1, rule2, rule3, r
 use Rattle.rules.specs.Rendering.{Kind, chained, readTable}
 use Rattle.rules.specs.PlainMethod.{plain, plainRule2, plainRule3, plainSound}
 use Rattle.rules.proofs.Choices.{both, join}
-use Rattle.tree.specs.Renders.{Renders}
+use Rattle.tree.specs.Renders.{Renders, Shows}
 use Rattle.tree.proofs.Trees.{tree-tidy}
 use Rattle.tree.proofs.Elements.{read-rendered}
 use Rattle.tree.proofs.ReadTests.{holds-is, Bounded, first-rule, rule-first, Vacant}
@@ -21,8 +21,23 @@ use Rattle.tree.proofs.FreeCells.{rules-vacant, vacant-rule2, vacant-ru
 use Rattle.tree.proofs.FromRules.{ruled-render}
 use Rattle.tree.proofs.ToRules.{rendered-long, render-ruled, render-home}
 
+-- A sound table is a tidy one.
+pub sound-shows : {K : Kind} {P : Profile} {base check : List ℤ} {t : Table} → Renders K P base check t → Shows K P base check t
+sound-shows r = record {
+  lengths = r .lengths;
+  table = tree-tidy (r .table .tree);
+  fits = r .fits;
+  base-is = r .base-is;
+  check-is = r .check-is;
+}
+
+-- The arrays show one table only: the one read from them.
+pub one-tidy-table : {K : Kind} {P : Profile} {base check : List ℤ} (t : Table) → Shows K P base check t → t ≡ readTable base check
+one-tidy-table {K} {P} {base} t s =
+    sym (ap₂ readTable (s .base-is) (s .check-is) ∙ read-rendered K P t (s .table) (length base) (rendered-long s))
+
 pub one-table : {K : Kind} {P : Profile} {base check : List ℤ} (t : Table) → Renders K P base check t → t ≡ readTable base check
-one-table {K} {P} {base} t r = sym (ap₂ readTable (r .base-is) (r .check-is) ∙ read-rendered K P t (tree-tidy (r .table .tree)) (length base) (rendered-long r))
+one-table t r = one-tidy-table t (sound-shows r)
 
 module _ (P : Profile) (base check : List ℤ) where
   -- ---- rules 1 and 4 to 7 are those of every kind; a kind's own stand between them

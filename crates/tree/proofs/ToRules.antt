@@ -20,7 +20,7 @@ use Rattle.rules.proofs.Choices.{branch, fails, join, otherwise}
 use Rattle.rules.proofs.Lengths.{lengths-same, lengths-within}
 use Rattle.rules.proofs.Ranges.{inside}
 use Rattle.tree.specs.Soundness.{Held, aLeaf, anInner, Fruit, Tree, Deep}
-use Rattle.tree.specs.Renders.{Renders}
+use Rattle.tree.specs.Renders.{Rendering, Renders}
 use Rattle.tree.proofs.UsedCells.{is-used, other-parent, unused-other, unused-parent}
 use Rattle.tree.proofs.Trees.{past-unused, used-pos, based-used, no-loop, tree-tidy}
 use Rattle.tree.proofs.TidyTables.{tidy-past-free}
@@ -29,10 +29,11 @@ use Rattle.tree.proofs.Climbs.{all-within, root-home, path-home, home-p
 use Rattle.tree.proofs.ReadTests.{is-holds, free-element, Bounded, Vacant, header, Ruled}
 use Rattle.tree.proofs.ReadTests.{used-parent, used-base, used-row, parent-base, same-used, to-others, next-has-child}
 
-module _ {K : Kind} {P : Profile} {base check : List ℤ} where
-  pub rendered-long : {t : Table} → Renders K P base check t → t .size < length base
-  rendered-long r = omega (arith, r .fits, lengths-within base check (r .lengths) .0)
+pub rendered-long : {F : Table → Type 0} {K : Kind} {P : Profile} {base check : List ℤ} {t : Table} → Rendering F K P base check t →
+    t .size < length base
+rendered-long {base = base} {check} r = omega (arith, r .fits, lengths-within base check (r .lengths) .0)
 
+module _ {K : Kind} {P : Profile} {base check : List ℤ} where
   module _ (r : Renders K P base check (readTable base check)) where
     abbrev T : Cells
     T = readCells base check
