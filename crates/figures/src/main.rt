@@ -1,15 +1,13 @@
 // Runs the public calls on document 01's figures, on three unsound tables, on P3 with each element in turn replaced by extreme
 // values, on identifiers of 1 to 33 letters and on lengths at the edges, and prints every answer. What it has to print is in
 // `stdout`; a test of the second program writes the same text from its own calls.
-use rules::Answer;
+use shown::answer;
+use shown::arrays;
+use shown::damage;
+use shown::number;
+use shown::text;
 ghost use Prim.Native.Nat.{_≤_, _<_};
 ghost use lib.ListN.{length};
-
-// Two arrays of the figures' length.
-struct Pair {
-    base: [i32; 9],
-    check: [i32; 9],
-}
 
 fn main() {
     show_all();
@@ -24,58 +22,27 @@ fn main() {
 }
 
 fn show_all() {
-    for n in 0..50 {
+    for n in 0..239 {
         show(n);
     }
 }
 
-// Tables 1 to 8, then P3 with each of its elements 0 to 8 damaged, then identifiers of 1 to 33 letters.
+// Tables 1 to 8, then P3 damaged in 198 ways, then identifiers of 1 to 33 letters.
 fn show(n: usize)
-    requires { ⌜ n < 50 ⌝ }
+    requires { ⌜ n < 239 ⌝ }
 {
     if n < 8 {
         show_table(n + 1);
         return;
     }
-    if n < 17 {
+    if n < 206 {
         show_damage(n - 8);
         return;
     }
-    show_ladder(n - 16);
+    show_ladder(n - 205);
 }
 
 // ---- what is printed
-
-fn text(bytes: &[u8]) {
-    io::write_all(1, bytes);
-}
-
-fn number(n: usize) {
-    text(b" ");
-    io::print_decimal(1, n as u64);
-}
-
-fn signed(x: i32) {
-    if x < 0 {
-        text(b" -");
-        io::print_decimal(1, numbers::minus(x) as u64);
-    } else {
-        number(numbers::plus(x));
-    }
-}
-
-fn elements(s: &[i32]) {
-    let mut i = 0;
-    while i < s.len() {
-        signed(s[i]);
-        i += 1;
-    }
-}
-
-fn answer(a: Answer) {
-    number(a.number() as usize);
-    number(a.value());
-}
 
 // What audit answers, and find to a few identifiers.
 fn answers(base: &[i32], check: &[i32]) {
@@ -94,46 +61,8 @@ fn answers(base: &[i32], check: &[i32]) {
 
 // ---- tables
 
-// P1 to P5 (P6 is P1); two cells that are each other's parent, a cell that is its own, a leaf right below the root.
-fn table(n: usize) -> Pair {
-    match n {
-        1 => Pair {
-            base: [1, 1, 0, 0, 0, 0, 0, 0, 0],
-            check: [-2, 1, 0, 0, 0, 0, 0, 0, 0],
-        },
-        2 => Pair {
-            base: [4, 1, -7, 1, 1, 0, 0, 0, 0],
-            check: [-5, 1, 4, 1, 3, 0, 0, 0, 0],
-        },
-        3 => Pair {
-            base: [7, 1, -7, 4, 0, -9, 0, 1, 0],
-            check: [-4, 1, 7, 1, -6, 3, -8, 3, 0],
-        },
-        4 => Pair {
-            base: [6, 1, -7, 3, -9, 0, 1, 0, 0],
-            check: [-5, 1, 6, 1, 3, -7, 3, 0, 0],
-        },
-        5 => Pair {
-            base: [3, 1, -9, 1, 0, 0, 0, 0, 0],
-            check: [-4, 1, 3, 1, 0, 0, 0, 0, 0],
-        },
-        6 => Pair {
-            base: [6, 1, 0, 0, 0, 4, 3, 0, 0],
-            check: [-2, 1, -3, -4, -7, 6, 5, 0, 0],
-        },
-        7 => Pair {
-            base: [5, 1, 0, 0, 0, 3, 0, 0, 0],
-            check: [-2, 1, -3, -4, -6, 5, 0, 0, 0],
-        },
-        _ => Pair {
-            base: [2, 1, -5, 0, 0, 0, 0, 0, 0],
-            check: [-3, 1, 1, 0, 0, 0, 0, 0, 0],
-        },
-    }
-}
-
 fn show_table(n: usize) {
-    let p = table(n);
+    let p = shown::table(n);
     let base = p.base;
     let check = p.check;
     text(b"table");
@@ -141,56 +70,14 @@ fn show_table(n: usize) {
     answers(&base, &check);
 }
 
-// ---- P3, damaged
-
-fn extreme(k: usize) -> i32 {
-    match k {
-        0 => -2147483648,
-        1 => -2147483647,
-        2 => -1000001,
-        3 => -1000000,
-        4 => -8,
-        5 => -1,
-        6 => 0,
-        7 => 1,
-        8 => 8,
-        9 => 9,
-        _ => 2147483647,
-    }
-}
-
-fn show_damage(i: usize)
-    requires { ⌜ i < 9 ⌝ }
+// P3, damaged in one of so many ways.
+fn show_damage(n: usize)
+    requires { ⌜ n < 198 ⌝ }
 {
-    for k in 0..11 {
-        damage_base(i, extreme(k));
-        damage_check(i, extreme(k));
-    }
-}
-
-fn damage_base(i: usize, x: i32)
-    requires { ⌜ i < 9 ⌝ }
-{
-    let p = table(3);
-    let mut base = p.base;
-    let check = p.check;
-    base[i] = x;
-    text(b"base");
-    number(i);
-    signed(x);
-    answers(&base, &check);
-}
-
-fn damage_check(i: usize, x: i32)
-    requires { ⌜ i < 9 ⌝ }
-{
-    let p = table(3);
+    let p = shown::damaged(n);
     let base = p.base;
-    let mut check = p.check;
-    check[i] = x;
-    text(b"check");
-    number(i);
-    signed(x);
+    let check = p.check;
+    damage(n);
     answers(&base, &check);
 }
 
@@ -272,10 +159,7 @@ fn make_fresh(base: &mut [i32], check: &mut [i32], n: usize, m: usize)
     text(b":");
     answer(index::fresh(&mut base[..n], &mut check[..m]));
     text(b"\n");
-    elements(base);
-    text(b"\n");
-    elements(check);
-    text(b"\n");
+    arrays(base, check);
 }
 
 fn show_longest() {

@@ -47,23 +47,8 @@ slice-aggregate-text-3 c = search needs
 text-requires-3 : tie.Need-text-requires-3
 text-requires-3 c κs = search needs
 
-elements-requires : tie.Need-elements-requires
-elements-requires c κs = search needs
-
-slice-aggregate-text-4 : tie.Need-slice-aggregate-text-4
-slice-aggregate-text-4 c = search needs
-
-text-requires-4 : tie.Need-text-requires-4
-text-requires-4 c κs = search needs
-
-elements-requires-2 : tie.Need-elements-requires-2
-elements-requires-2 c κs = search needs
-
-slice-aggregate-text-5 : tie.Need-slice-aggregate-text-5
-slice-aggregate-text-5 c = search needs
-
-text-requires-5 : tie.Need-text-requires-5
-text-requires-5 c κs = search needs
+arrays-requires : tie.Need-arrays-requires
+arrays-requires c κs = search needs
 
 same-length : tie.Need-same-length
 same-length c = search needs
@@ -92,12 +77,7 @@ make-fresh-spec =
     answer-requires
     slice-aggregate-text-3
     text-requires-3
-    elements-requires
-    slice-aggregate-text-4
-    text-requires-4
-    elements-requires-2
-    slice-aggregate-text-5
-    text-requires-5
+    arrays-requires
     same-length
     same-length-2
     returns)

@@ -5,10 +5,10 @@ use Rattle.figures.proofs.show_all.Statement.{statement}
 use Rattle.figures.proofs.show_all.Tie as tie
 
 abbrev Inv-loop : tie.InvT-loop
-Inv-loop n₀ n = n ≤ 50
+Inv-loop n₀ n = n ≤ 239
 
 abbrev μ-loop : tie.MeasureT-loop
-μ-loop n₀ n = 50 - n
+μ-loop n₀ n = 239 - n
 
 loop-holds : tie.Need-loop-holds Inv-loop μ-loop
 loop-holds c = search needs

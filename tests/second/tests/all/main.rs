@@ -7,6 +7,7 @@ mod damage;
 mod figures;
 mod generator;
 mod histories;
+mod insertions;
 mod printed_sheet;
 mod refusals;
 mod stored_output;

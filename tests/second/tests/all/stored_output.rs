@@ -11,8 +11,12 @@ const EXTREMES: [i32; 11] =
     [i32::MIN, i32::MIN + 1, -1_000_001, -1_000_000, -8, -1, 0, 1, 8, 9, i32::MAX];
 
 /// Both numbers of an answer.
-fn said(answer: Answer) -> String {
+pub fn said(answer: Answer) -> String {
     format!(" {} {}", answer.number, answer.value)
+}
+
+pub fn elements(array: &[i32]) -> String {
+    array.iter().map(|element| format!(" {element}")).collect()
 }
 
 fn answers(pair: &Pair) -> String {
@@ -24,26 +28,34 @@ fn answers(pair: &Pair) -> String {
     line + "\n"
 }
 
-fn tables() -> String {
+/// Two cells that are each other's parent, a cell that is its own, a leaf right below the root.
+pub fn unsound() -> [Pair; 3] {
     let ring = Pair::built(9, 6, &[(1, 1, 1), (5, 6, 4), (6, 5, 3)]);
     let own = Pair::built(9, 5, &[(1, 1, 1), (5, 5, 3)]);
     let shallow = Pair::built(9, 2, &[(1, 1, 1), (2, 1, -5)]);
-    let tables = [p1(), p2(), p3(), p4(), p5(), ring, own, shallow];
-    let lines = (1..).zip(&tables);
-    lines.map(|(n, pair)| format!("table {n}{}", answers(pair))).collect()
+    [ring, own, shallow]
+}
+
+fn tables() -> String {
+    let tables = [p1(), p2(), p3(), p4(), p5()].into_iter().chain(unsound());
+    let lines = (1..).zip(tables);
+    lines.map(|(n, pair)| format!("table {n}{}", answers(&pair))).collect()
+}
+
+/// P3 with each of its elements in turn replaced by extreme values, and what is replaced.
+pub fn damaged() -> Vec<(String, Pair)> {
+    let mut tables = Vec::new();
+    for i in 0..9 {
+        for x in EXTREMES {
+            tables.push((format!("base {i} {x}"), p3().changed(&[('b', i, x)])));
+            tables.push((format!("check {i} {x}"), p3().changed(&[('c', i, x)])));
+        }
+    }
+    tables
 }
 
 fn damage() -> String {
-    let mut text = String::new();
-    for i in 0..9 {
-        for x in EXTREMES {
-            let (mut base, mut check) = (p3(), p3());
-            (base.base[i], check.check[i]) = (x, x);
-            write!(text, "base {i} {x}{}", answers(&base)).unwrap();
-            write!(text, "check {i} {x}{}", answers(&check)).unwrap();
-        }
-    }
-    text
+    damaged().iter().map(|(damage, pair)| format!("{damage}{}", answers(pair))).collect()
 }
 
 /// One identifier of k times the letter a.
@@ -63,8 +75,7 @@ fn ladder(k: usize) -> String {
 fn freshly(n: usize, m: usize) -> String {
     let (mut base, mut check) = ([-77; 9], [i32::MIN; 9]);
     let answer = fresh(&mut base[..n], &mut check[..m]);
-    let elements = |s: [i32; 9]| s.map(|x| format!(" {x}")).concat();
-    let (base, check) = (elements(base), elements(check));
+    let (base, check) = (elements(&base), elements(&check));
     format!("fresh {n} {m}:{}\n{base}\n{check}\n", said(answer))
 }
 

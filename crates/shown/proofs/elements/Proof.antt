@@ -2,8 +2,8 @@
 use Prim.Native.Nat.{_-_, _≤_}
 use borrow.Author.Needs.{needs}
 use lib.ListN.{length}
-use Rattle.figures.proofs.elements.Statement.{statement}
-use Rattle.figures.proofs.elements.Tie as tie
+use Rattle.shown.proofs.elements.Statement.{statement}
+use Rattle.shown.proofs.elements.Tie as tie
 
 abbrev Inv-loop : tie.InvT-loop
 Inv-loop s i₀ i = i ≤ length s
