@@ -6,6 +6,8 @@ pub mod Holding
 -- The search.
 pub mod TakenCells
 pub mod Seeking
+pub mod Placed
+pub mod AGap
 -- The size, and the chain.
 pub mod Resizing
 pub mod Relinking

@@ -10,9 +10,9 @@ use lib.IntN.{ℤ}
 use borrow.Author.Tests.{lt-ltb, le-ltb}
 use Rattle.numbers.specs.Stored.{minusAt}
 use Rattle.numbers.proofs.Cases.{lt-or-ge}
-use Rattle.rules.specs.Placement.{leastOf, opens, sought}
+use Rattle.rules.specs.Placement.{leastOf, opens, suits, sought}
 use Rattle.rules.proofs.Ranges.{first-is}
-use Rattle.tree.proofs.Placement.{among-least, each-opens, suits}
+use Rattle.tree.proofs.Placement.{among-least, each-opens}
 use Rattle.chain.specs.Search.{takenAt, Next, Chain}
 use Rattle.chain.proofs.TakenCells.{taken-past}
 

@@ -1,5 +1,5 @@
--- The edits of single cells and of the size, as changes of a table; and what is asked of those who make them in the arrays. Each
--- leaves the rendering of the table with that one thing changed.
+-- The edits of single cells, of the size and of a node's children, as changes of a table; and what is asked of those who make them
+-- in the arrays. Each leaves the rendering of the table with that one thing changed.
 use mathlib.Core.Path.{_≡_}
 use mathlib.Core.Logic.{_≢_}
 use mathlib.Core.Bool.{false}
@@ -34,9 +34,13 @@ sized t n = record { cells = t .cells; size = n }
 abbrev pub holding : Table → ℕ → Content → Table
 holding t u x = celled t (update (t .cells) u x)
 
--- The cell u claimed for a child of s, without a base yet. The size grows where u lies past it.
+-- One cell more: x in cell u. The size grows where u lies past it.
+abbrev pub more : Table → ℕ → Content → Table
+more t u x = holding (sized t (max (t .size) u)) u x
+
+-- The cell u claimed for a child of s, without a base yet.
 abbrev pub claimed : Table → ℕ → ℕ → Table
-claimed t u s = holding (sized t (max (t .size) u)) u (inner s 0)
+claimed t u s = more t u (inner s 0)
 
 -- The children of the cell t handed to the cell u.
 unfoldable pub handed : Cells → ℕ → ℕ → Cells

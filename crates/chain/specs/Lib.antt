@@ -1,4 +1,4 @@
 -- What the inner search is asked and finds.
 pub mod Search
--- What the edits of single cells are asked and leave.
+-- What the edits are asked and leave.
 pub mod Edits

@@ -38,7 +38,7 @@ pub record Codes (codes : List ℕ) : Type 0 where
 pub record Searches (check : List ℤ) (size : ℕ) (codes : List ℕ) : Type 0 where
   pub cells : ℕ → Bool
   pub chain : Chain cells size check
-  pub codes-are : Codes codes
+  pub wanted : Codes codes
   pub small : size < 65536
 
 -- What the search finds: whichever cells m the chain in check names, the smallest q of 1 or more whose least q + code is one of

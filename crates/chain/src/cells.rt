@@ -1,8 +1,13 @@
-// Claiming a cell, releasing one, and the size. The chain is walked from its head to the place concerned; no link before that
-// place is rewritten.
+// Claiming a cell, releasing one, and the size. The chain is walked from its head to the cell's place; of the links before that
+// place only the last is rewritten.
 use rules::Cell;
+use rules::Row;
+ghost use mathlib.Core.Bool.{true};
 ghost use mathlib.Core.Path.{_≡_};
 ghost use Prim.Native.Nat.{max};
+ghost use lib.ListN.{set};
+ghost use Rattle.numbers.specs.Stored.{negative};
+ghost use Rattle.rules.specs.WhatTheIndexDoes.{isRow};
 ghost use Rattle.rules.specs.Table.{free, largestUsed};
 ghost use Rattle.rules.specs.DeletionAndCompaction.{trimmed};
 ghost use Rattle.chain.specs.Search.{Walks, Precedes};
@@ -30,6 +35,14 @@ pub fn release(base: &mut [i32], check: &mut [i32], u: Cell)
     numbers::put_minus(check, p.0, u.0);
     numbers::put_minus(check, u.0, n);
     numbers::put_plus(base, u.0, 0);
+}
+
+// The used cell u is a leaf with this row.
+pub fn put_row(base: &mut [i32], u: Cell, row: Row)
+    requires { ⌜ isRow (row .0) ≡ true ⌝ }
+    ensures { λ _. ⌜ now (base .exit) ≡ set (now (base .entry)) (u .0) (negative (row .0)) ⌝ }
+{
+    numbers::put_minus(base, u.0, row.0 as usize);
 }
 
 // The last cell on the chain below u, or cell 0, the header.

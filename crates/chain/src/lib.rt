@@ -1,5 +1,5 @@
 // Empty cells, and the edits that claim and release them. Each leaves the rendering of the table with one thing changed; what
-// each is asked stands in specs/, as a record of its name.
+// they are asked stands in specs/.
 
 // The placed base, sought along the chain.
 pub mod placing;

@@ -2,15 +2,15 @@
 ghost use mathlib.Core.Path.{_≡_};
 ghost use Prim.Native.Nat.{_≤_, _<_};
 ghost use lib.ListN.{length};
-ghost use Rattle.rules.specs.Table.{used};
-ghost use Rattle.rules.specs.Placement.{leastOf, greatestOf, opens, placed};
+ghost use Rattle.rules.specs.ASoundTable.{sizeAt};
+ghost use Rattle.rules.specs.Placement.{leastOf, greatestOf, opens};
 ghost use Rattle.chain.specs.Search.{takenAt, Codes, Searches, Finds};
-ghost use Rattle.chain.specs.Edits.{Shown, SomeTable, EveryTable};
 
-// The placed base for these codes.
+// What the inner search finds at the size that base[0] states. Where the chain names every free cell, that is the placed base; but
+// this promise is the search's own, so that nothing but the search meets it.
 pub fn place(base: &[i32], check: &[i32], codes: &[usize]) -> usize
-    requires { ⌜ SomeTable (Shown (now base) (now check)) × Codes (now codes) ⌝ }
-    ensures { λ r. ⌜ EveryTable (Shown (now (base .entry)) (now (check .entry))) (λ t. r ≡ placed (used (t .cells)) (t .size) (now (codes .entry))) ⌝ }
+    requires { ⌜ Searches (now check) (sizeAt (now base)) (now codes) ⌝ }
+    ensures { λ r. ⌜ Finds (now (check .entry)) (sizeAt (now (base .entry))) (now (codes .entry)) r ⌝ }
 {
     seek(check, numbers::plus_at(base, 0), codes)
 }

@@ -16,13 +16,12 @@ use Rattle.rules.specs.WhatTheIndexDoes.{codeOf, document01, coded, lastCell}
 use Rattle.rules.specs.Table.{Table, lookup}
 use Rattle.rules.specs.Rendering.{chained, readCells, readTable}
 use Rattle.rules.specs.Finding.{walkAt, leafAfter, leafAt, rowOf, rowFound}
-use Rattle.rules.specs.Insertion.{Course, extend, inserted}
+use Rattle.rules.specs.Insertion.{Course, inserted}
 use Rattle.rules.specs.Commands.{insert, carriedOut}
 use Rattle.rules.specs.Calls.{stored, soundEdit}
 use Rattle.rules.proofs.Codes.{document01-round-trip}
 use Rattle.rules.proofs.Lengths.{lengths-within}
 use Rattle.tree.specs.Renders.{Renders}
-use Rattle.tree.specs.Labels.{firstLabel, furtherLabels}
 use Rattle.tree.proofs.ChildCodes.{based-near}
 use Rattle.tree.proofs.Labels.{label-low}
 use Rattle.tree.proofs.Identifiers.{identifier-coded}
@@ -31,7 +30,7 @@ use Rattle.tree.proofs.Finding.{found-row}
 use Rattle.tree.proofs.Stopping.{Stops, leaf-none, walk-begins}
 use Rattle.chain.specs.Edits.{Shown}
 use Rattle.index.specs.Promised.{Edits, Reaches}
-use Rattle.index.specs.Inserting.{Inserts, Extends, Extended}
+use Rattle.index.specs.Inserting.{extension, Inserts, Extends, Extended}
 use Rattle.index.proofs.Promises.{reached-is, row-reached}
 use Rattle.index.proofs.Editing.{shown-same, stored-done, stored-refused}
 
@@ -100,7 +99,7 @@ module _ {base check : List ℤ} {key : List ℕ} {row : ℕ} (i : Inserts base 
 
       -- The course, and the answer to it.
       abbrev course : Course
-      course = extend document01 (lastCell base) (t .cells) (t .size) cell (firstLabel document01 rest) (furtherLabels document01 rest) row
+      course = extension (lastCell base) t cell rest row
 
       course-is : inserted document01 (lastCell base) t key row ≡ course
       unfolding inserted readTable

@@ -10,12 +10,12 @@ use lib.IntN.{ℤ}
 use Rattle.numbers.specs.Stored.{plusAt}
 use Rattle.rules.specs.WhatTheIndexDoes.{GREATEST, document01, lastCell}
 use Rattle.rules.specs.Table.{Cells, Table, used, childCodes}
-use Rattle.rules.specs.Insertion.{relocate, Course, grow}
+use Rattle.rules.specs.Insertion.{relocate, Course}
 use Rattle.rules.proofs.Codes.{document01-round-trip}
 use Rattle.rules.proofs.Lengths.{lengths-within}
 use Rattle.tree.specs.Soundness.{Tree}
 use Rattle.tree.specs.Moved.{Fit}
-use Rattle.tree.specs.Labels.{firstLabel, furtherLabels}
+use Rattle.tree.specs.Labels.{firstLabel}
 use Rattle.tree.specs.Members.{Among}
 use Rattle.tree.proofs.Labels.{label-high}
 use Rattle.tree.proofs.UsedCells.{parentless-unused}
@@ -27,7 +27,7 @@ use Rattle.tree.proofs.Relocation.{codes-moved}
 use Rattle.tree.proofs.ThereAndBack.{fit-back, relocate-back}
 use Rattle.tree.proofs.Collisions.{collide-fit, collide-tree, collide-base, collide-place}
 use Rattle.chain.specs.Edits.{Shown, sized, celled, Widens, Shrinks, Relocates}
-use Rattle.index.specs.Inserting.{MovesAndGrows, Grows, Grown}
+use Rattle.index.specs.Inserting.{growth, relocated, MovesAndGrows, Grows, Grown}
 use Rattle.chain.proofs.Shown.{shown-small, shown-size, shown-base}
 use Rattle.index.proofs.Extending.{s-inside}
 use Rattle.index.proofs.Leaving.{fits-left, unfit-left, left-fits, left-unfit}
@@ -105,7 +105,7 @@ module _ {base check : List ℤ} {s : ℕ} {rest : List ℕ} {row q far : ℕ} {
     }
 
     -- The rest is to grow from s.
-    pub grows : length base′ ≡ length base → Shown base′ check′ (celled (sized t wide) R) → Grows base′ check′ s rest row (celled (sized t wide) R)
+    pub grows : length base′ ≡ length base → Shown base′ check′ (relocated t s q far) → Grows base′ check′ s rest row (relocated t s q far)
     grows len shown = record {
       shown = shown;
       some = based-pos tree s (m .extends .based);
@@ -117,7 +117,7 @@ module _ {base check : List ℤ} {s : ℕ} {rest : List ℕ} {row q far : ℕ} {
     }
 
     -- The children are to move back.
-    pub back : {b : ℕ} → b ≡ plusAt base s → Shown base′ check′ (celled (sized t wide) R) → Relocates base′ check′ s b codes (celled (sized t wide) R)
+    pub back : {b : ℕ} → b ≡ plusAt base s → Shown base′ check′ (relocated t s q far) → Relocates base′ check′ s b codes (relocated t s q far)
     unfolding relocate
     back e shown = record {
       shown = shown;
@@ -141,17 +141,17 @@ module _ {base check : List ℤ} {s : ℕ} {rest : List ℕ} {row q far : ℕ} {
 
   -- The course of the rest, from where the children are.
   abbrev course : ℕ → Course
-  course last = grow last R wide s c (furtherLabels document01 rest) row
+  course last = growth last (relocated t s q far) s rest row
 
   module _ (base′ : List ℤ) {base″ check″ : List ℤ} {r : Bool} (len : length base′ ≡ length base)
-      (g : Grown (course (lastCell base′)) (celled (sized t wide) R) r base″ check″) where
-    of-course : Grown (course (lastCell base)) (celled (sized t wide) R) r base″ check″
+      (g : Grown (course (lastCell base′)) (relocated t s q far) r base″ check″) where
+    of-course : Grown (course (lastCell base)) (relocated t s q far) r base″ check″
     of-course = rw (← len) g
 
     pub all-fit : r ≡ true → Grown (course (lastCell base)) t true base″ check″
     all-fit e = let (f, shown) = fits-left of-course e in left-fits f shown
 
-    pub moved-still : r ≡ false → Shown base″ check″ (celled (sized t wide) R)
+    pub moved-still : r ≡ false → Shown base″ check″ (relocated t s q far)
     moved-still e = unfit-left of-course e .1
 
     pub all-back : r ≡ false → {n : ℕ} → n ≡ plusAt base 0 → {base‴ check‴ : List ℤ} → Shown base‴ check‴ (sized t n) →

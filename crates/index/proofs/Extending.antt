@@ -14,14 +14,14 @@ use Rattle.rules.specs.declared.Answer.{Answer}
 use Rattle.rules.specs.declared.Answer.the-variants.{Done, NoRoom}
 use Rattle.rules.specs.WhatTheIndexDoes.{GREATEST, document01, lastCell}
 use Rattle.rules.specs.Table.{Cells, Table, used}
-use Rattle.rules.specs.Insertion.{Course, grow, collide, extend}
+use Rattle.rules.specs.Insertion.{extend}
 use Rattle.rules.proofs.Lengths.{lengths-within}
 use Rattle.tree.specs.Labels.{firstLabel, furtherLabels}
 use Rattle.tree.proofs.UsedCells.{parent-used, parentless-unused}
 use Rattle.tree.proofs.Trees.{based-pos, based-used}
 use Rattle.tree.proofs.Branches.{grow-count}
 use Rattle.chain.specs.Edits.{Collects, Collected}
-use Rattle.index.specs.Inserting.{Extends, PlacesAnew, Grows, Grown, Extended}
+use Rattle.index.specs.Inserting.{growth, collision, extension, Extends, PlacesAnew, Grows, Grown, Extended}
 use Rattle.chain.proofs.Shown.{shown-base, shown-parent}
 use Rattle.index.proofs.Leaving.{fits-left, unfit-left, done, no-room}
 
@@ -69,21 +69,12 @@ module _ {base check : List ℤ} {s : ℕ} {rest : List ℕ} {row : ℕ} {t : Ta
     cell-parent : plusAt check (b + d) ≡ T (T s .base + c) .parent
     cell-parent = rw cell-is (shown-parent (e .shown) (T s .base + c) cell-far)
 
-    abbrev extension : Course
-    extension = extend document01 (lastCell base) T (t .size) s c (furtherLabels document01 rest) row
-
-    abbrev collision : Course
-    collision = collide document01 (lastCell base) T (t .size) s c (furtherLabels document01 rest) row
-
-    abbrev plain : Course
-    plain = grow (lastCell base) T (t .size) s c (furtherLabels document01 rest) row
-
     -- ---- the node collides
 
     abbrev collides : Bool
     collides = used T (T s .base + c) || ltb (lastCell base) (T s .base + c)
 
-    is-collision : collides ≡ true → extension ≡ collision
+    is-collision : collides ≡ true → (extension (lastCell base) t s rest row) ≡ (collision (lastCell base) t s rest row)
     unfolding extend
     is-collision y = rw y
 
@@ -95,11 +86,11 @@ module _ {base check : List ℤ} {s : ℕ} {rest : List ℕ} {row : ℕ} {t : Ta
     is-taken : 1 ≤ plusAt check (b + d) → collides ≡ true
     is-taken h = rw (parent-used T (T s .base + c) (rw cell-parent at h))
 
-    module _ {r : Answer} {base′ check′ : List ℤ} (x : Extended collision t r base′ check′) where
-      pub collides-past : length base ≤ b + d → Extended extension t r base′ check′
+    module _ {r : Answer} {base′ check′ : List ℤ} (x : Extended (collision (lastCell base) t s rest row) t r base′ check′) where
+      pub collides-past : length base ≤ b + d → Extended (extension (lastCell base) t s rest row) t r base′ check′
       collides-past h = rw (is-collision (past-last h)) x
 
-      pub collides-taken : 1 ≤ plusAt check (b + d) → Extended extension t r base′ check′
+      pub collides-taken : 1 ≤ plusAt check (b + d) → Extended (extension (lastCell base) t s rest row) t r base′ check′
       collides-taken h = rw (is-collision (is-taken h)) x
 
     -- ---- or not
@@ -111,7 +102,7 @@ module _ {base check : List ℤ} {s : ℕ} {rest : List ℕ} {row : ℕ} {t : Ta
       cell-fits : T s .base + c ≤ lastCell base
       cell-fits = omega (arith, cell-is)
 
-      is-plain : extension ≡ plain
+      is-plain : (extension (lastCell base) t s rest row) ≡ (growth (lastCell base) t s rest row)
       unfolding extend
       is-plain = rw (vacant, le-ltb (lastCell base) (T s .base + c) cell-fits)
 
@@ -126,11 +117,11 @@ module _ {base check : List ℤ} {s : ℕ} {rest : List ℕ} {row : ℕ} {t : Ta
         row-is = e .row-is;
       }
 
-      module _ {r : Bool} {base′ check′ : List ℤ} (g : Grown plain t r base′ check′) where
-        pub grown-done : r ≡ true → Extended extension t (Done 0) base′ check′
+      module _ {r : Bool} {base′ check′ : List ℤ} (g : Grown (growth (lastCell base) t s rest row) t r base′ check′) where
+        pub grown-done : r ≡ true → Extended (extension (lastCell base) t s rest row) t (Done 0) base′ check′
         grown-done y =
             let (f, shown) = fits-left g y in
-            rw is-plain (subst (λ n. Extended plain t (Done n) base′ check′) (grow-count (lastCell base) T (t .size) s c (furtherLabels document01 rest) row) (done f shown))
+            rw is-plain (subst (λ n. Extended (growth (lastCell base) t s rest row) t (Done n) base′ check′) (grow-count (lastCell base) T (t .size) s c (furtherLabels document01 rest) row) (done f shown))
 
-        pub grown-none : r ≡ false → Extended extension t NoRoom base′ check′
+        pub grown-none : r ≡ false → Extended (extension (lastCell base) t s rest row) t NoRoom base′ check′
         grown-none y = let (f, shown) = unfit-left g y in rw is-plain (no-room f shown)

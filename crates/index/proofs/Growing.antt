@@ -17,7 +17,7 @@ use Rattle.rules.specs.Placement.{greatestOf, placed, fits}
 use Rattle.rules.specs.Insertion.{Course, grow}
 use Rattle.rules.specs.Rendering.{baseHolds}
 use Rattle.rules.proofs.Texts.{behind}
-use Rattle.tree.specs.Labels.{firstLabel, furtherLabels}
+use Rattle.tree.specs.Labels.{firstLabel}
 use Rattle.tree.proofs.UsedCells.{parent-used, unused-parent, unused-other}
 use Rattle.tree.proofs.TidyTables.{tidy-past}
 use Rattle.tree.proofs.Trees.{row-low}
@@ -25,16 +25,12 @@ use Rattle.tree.proofs.Placement.{placed-pos, placed-opens, placed-near, opens-
 use Rattle.tree.proofs.OneCell.{update-at, update-off}
 use Rattle.tree.proofs.Branches.{used-same}
 use Rattle.tree.proofs.Labels.{further-none, further-some}
-use Rattle.chain.specs.Edits.{Shown, EveryTable, celled, sized, holding, claimed, Claims}
-use Rattle.index.specs.Inserting.{Grows, Grown, Retracts, retracted}
+use Rattle.chain.specs.Edits.{Shown, EveryTable, celled, holding, more, claimed, Claims}
+use Rattle.index.specs.Inserting.{Grows, Grown, Retracts, growth, retracted}
 use Rattle.chain.proofs.Shown.{shown-small}
 use Rattle.chain.proofs.Holding.{held-each, base-stored}
 
 -- ---- a cell more
-
--- The table with x in the cell u. The size grows where u lies past it.
-abbrev pub more : Table → ℕ → Content → Table
-more t u x = holding (sized t (max (t .size) u)) u x
 
 module _ (t : Table) (u : ℕ) (x : Content) where
   -- What is put into a cell last is what it holds.
@@ -70,10 +66,6 @@ module _ {base check : List ℤ} {s : ℕ} {rest : List ℕ} {row : ℕ} {t : Ta
 
 -- ---- the course
 
--- The course of what is left of an identifier, from the node s.
-abbrev courseFrom : ℕ → Table → ℕ → List ℕ → ℕ → Course
-courseFrom last t s rest row = grow last (t .cells) (t .size) s (firstLabel document01 rest) (furtherLabels document01 rest) row
-
 -- The cell u, to which the first label leads, is claimed.
 pub record Begun (base check : List ℤ) (s : ℕ) (rest : List ℕ) (row : ℕ) (t : Table) (size u : ℕ) (base′ check′ : List ℤ) : Type 0 where
   pub asked : Grows base check s rest row t
@@ -91,7 +83,7 @@ pub record Goes (t : Table) (u s : ℕ) (rest : List ℕ) (d q : ℕ) : Type 0 w
 module _ {base check : List ℤ} {s : ℕ} {rest : List ℕ} {row : ℕ} {t : Table} {size u : ℕ} {base′ check′ : List ℤ}
     (k : Begun base check s rest row t size u base′ check′) where
   abbrev whole : Course
-  whole = courseFrom (lastCell base) t s rest row
+  whole = growth (lastCell base) t s rest row
 
   cell-far : 2 ≤ u
   cell-far = let d = unused-other (t .cells) u (cell-unused (k .asked) (k .cell-is)) in omega (arith, cell-some (k .asked) (k .cell-is))
@@ -105,7 +97,7 @@ module _ {base check : List ℤ} {s : ℕ} {rest : List ℕ} {row : ℕ} {t : Ta
 
   -- With no label behind it, it becomes the leaf.
   pub grow-ended : length rest ≤ 0 → {base″ : List ℤ} → base″ ≡ set base′ u (negative row) →
-      Grown (whole) t true base″ check′
+      Grown whole t true base″ check′
   unfolding grow baseHolds
   grow-ended h e = rw (further-none document01 rest h, ← k .cell-is, e) (record {
     fitted = refl;
@@ -133,7 +125,7 @@ module _ {base check : List ℤ} {s : ℕ} {rest : List ℕ} {row : ℕ} {t : Ta
   module _ {d q : ℕ} (o : Goes t u s rest d q) where
     -- The course from that cell on.
     abbrev on : Course
-    on = courseFrom (lastCell base) (more t u (inner s q)) u (behind rest) row
+    on = growth (lastCell base) (more t u (inner s q)) u (behind rest) row
 
     -- Its base does not matter to what is used.
     used-more : (b : ℕ) → used (more t u (inner s b) .cells) ≡ used (claimed t u s .cells)
@@ -148,12 +140,12 @@ module _ {base check : List ℤ} {s : ℕ} {rest : List ℕ} {row : ℕ} {t : Ta
     placed-small = omega (arith, o .base-is, shown-small (k .shown), placed-near _ _ (tidy-past (k .shown .table)) (d ∷ []))
 
     refused : {base″ check″ : List ℤ} → (leb (q + d) (lastCell base) && on .fitted) ≡ false → Shown base″ check″ t →
-        Grown (whole) t false base″ check″
+        Grown whole t false base″ check″
     refused e w = rw course-on (record { fitted = sym e; left = rw e w })
 
     -- It does not fit.
     pub grow-past : {base″ check″ : List ℤ} → length base′ ≤ q + d → Shown base″ check″ t →
-        Grown (whole) t false base″ check″
+        Grown whole t false base″ check″
     grow-past h = refused (rw (lt-leb (q + d) (lastCell base) (omega (arith, k .long, k .asked .based, k .asked .fits))))
 
     -- It fits, and becomes the cell's base.
@@ -180,11 +172,11 @@ module _ {base check : List ℤ} {s : ℕ} {rest : List ℕ} {row : ℕ} {t : Ta
           }
 
       module _ {r : Bool} {base‴ check‴ : List ℤ} (f : EveryTable (Grows base″ check′ u (behind rest) row)
-          (λ m. Grown (courseFrom (lastCell base″) m u (behind rest) row) m r base‴ check‴)) where
+          (λ m. Grown (growth (lastCell base″) m u (behind rest) row) m r base‴ check‴)) where
         further : Grown on (more t u (inner s q)) r base‴ check‴
         further = rw last-same at (f _ grow-onward)
 
-        pub grow-fitted : r ≡ true → Grown (whole) t true base‴ check‴
+        pub grow-fitted : r ≡ true → Grown whole t true base‴ check‴
         grow-fitted e =
             let fitted : on .fitted ≡ true = sym (further .fitted) ∙ e in
             rw (course-on, le-leb _ _ within) (record { fitted = sym fitted; left = rw fitted (rw fitted at (further .left)) })
@@ -194,5 +186,5 @@ module _ {base check : List ℤ} {s : ℕ} {rest : List ℕ} {row : ℕ} {t : Ta
         grow-left e = rw (← further .fitted, e) at (further .left)
 
         pub grow-unfitted : {base⁗ check⁗ : List ℤ} → r ≡ false → Shown base⁗ check⁗ t →
-            Grown (whole) t false base⁗ check⁗
+            Grown whole t false base⁗ check⁗
         grow-unfitted e = refused (rw (← further .fitted, e, and-false))

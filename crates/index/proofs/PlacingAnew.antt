@@ -4,7 +4,7 @@ use mathlib.Core.Path.{_≡_, refl, sym, ap, _∙_, subst}
 use mathlib.Core.Logic.{inl, inr}
 use mathlib.Core.Bool.{Bool, true, false, _&&_}
 use mathlib.Core.List.{List, _∷_}
-use Prim.Native.Nat.{ℕ, _+_, _-_, _≤_, _<_, max}
+use Prim.Native.Nat.{ℕ, _+_, _-_, _≤_, _<_}
 use native.Mathlib.Omega.{arith}
 use lib.ListN.{length}
 use lib.Seq.{take-all}
@@ -15,18 +15,18 @@ use Rattle.rules.specs.declared.Answer.the-variants.{Done, NoRoom}
 use Rattle.rules.specs.WhatTheIndexDoes.{GREATEST, document01, lastCell}
 use Rattle.rules.specs.Table.{Cells, Table, used, childCodes}
 use Rattle.rules.specs.Placement.{greatestOf, placed, fits}
-use Rattle.rules.specs.Insertion.{relocate, Course, grow, collide}
+use Rattle.rules.specs.Insertion.{Course, collide}
 use Rattle.rules.proofs.Codes.{document01-round-trip}
 use Rattle.rules.proofs.Lengths.{lengths-within}
 use Rattle.rules.proofs.Texts.{behind}
-use Rattle.tree.specs.Labels.{firstLabel, furtherLabels}
+use Rattle.tree.specs.Labels.{firstLabel}
 use Rattle.tree.specs.Members.{Among}
 use Rattle.tree.proofs.Labels.{label-high}
 use Rattle.tree.proofs.Trees.{past-unused}
 use Rattle.tree.proofs.Placement.{greatest-within, placed-within}
 use Rattle.tree.proofs.ChildCodes.{codes-lead}
 use Rattle.chain.specs.Search.{Codes}
-use Rattle.index.specs.Inserting.{PlacesAnew, MovesAndGrows, Grown, Extended}
+use Rattle.index.specs.Inserting.{growth, collision, relocated, PlacesAnew, MovesAndGrows, Grown, Extended}
 use Rattle.chain.proofs.Shown.{shown-small}
 use Rattle.index.proofs.Leaving.{fits-left, unfit-left, done, no-room}
 
@@ -91,38 +91,35 @@ module _ {base check : List ℤ} {s : ℕ} {rest : List ℕ} {row : ℕ} {codes 
         fits = h;
       }
 
-      -- The course of the collision, and that of the rest after the move.
-      abbrev collision : Course
-      collision = collide document01 (lastCell base) T size s c (furtherLabels document01 rest) row
-
+      -- The course of the rest after the move.
       abbrev on : Course
-      on = grow (lastCell base) (relocate T s q) (max size far) s c (furtherLabels document01 rest) row
+      on = growth (lastCell base) (relocated t s q far) s rest row
 
-      collision-fitted : collision .fitted ≡ (leb far (lastCell base) && on .fitted)
+      collision-fitted : (collision (lastCell base) t s rest row) .fitted ≡ (leb far (lastCell base) && on .fitted)
       unfolding collide fits
       collision-fitted = rw (← a .codes-are, ← is, ← is-far) refl
 
-      collision-table : collision .table ≡ on .table
+      collision-table : (collision (lastCell base) t s rest row) .table ≡ on .table
       unfolding collide
       collision-table = rw (← a .codes-are, ← is, ← is-far) refl
 
-      collision-count : collision .count ≡ length codes - 1
+      collision-count : (collision (lastCell base) t s rest row) .count ≡ length codes - 1
       unfolding collide
       collision-count = omega (arith, ap length (a .codes-are))
 
-      pub past-last : length base ≤ far → Extended collision t NoRoom base check
+      pub past-last : length base ≤ far → Extended (collision (lastCell base) t s rest row) t NoRoom base check
       past-last h =
           let past : lastCell base < far = omega (arith, lengths-within base check (a .extends .shown .lengths) .0) in
           no-room (collision-fitted ∙ rw (lt-leb far (lastCell base) past) refl) (a .extends .shown)
 
       module _ {base′ check′ : List ℤ} {r : Bool} (h : far ≤ lastCell base) (grown : Grown on t r base′ check′) where
-        fitted-on : collision .fitted ≡ on .fitted
+        fitted-on : (collision (lastCell base) t s rest row) .fitted ≡ on .fitted
         fitted-on = collision-fitted ∙ rw (le-leb far (lastCell base) h) refl
 
-        pub all-placed : r ≡ true → Extended collision t (Done (length codes - 1)) base′ check′
+        pub all-placed : r ≡ true → Extended (collision (lastCell base) t s rest row) t (Done (length codes - 1)) base′ check′
         all-placed e =
             let (f, shown) = fits-left grown e in
-            subst (λ n. Extended collision t (Done n) base′ check′) collision-count (done (fitted-on ∙ f) (rw collision-table shown))
+            subst (λ n. Extended (collision (lastCell base) t s rest row) t (Done n) base′ check′) collision-count (done (fitted-on ∙ f) (rw collision-table shown))
 
-        pub not-placed : r ≡ false → Extended collision t NoRoom base′ check′
+        pub not-placed : r ≡ false → Extended (collision (lastCell base) t s rest row) t NoRoom base′ check′
         not-placed e = let (f, shown) = unfit-left grown e in no-room (fitted-on ∙ f) shown

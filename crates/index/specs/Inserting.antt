@@ -3,7 +3,7 @@ use mathlib.Core.Path.{_≡_}
 use mathlib.Core.Logic.{_≢_}
 use mathlib.Core.Bool.{Bool, true, false, cond}
 use mathlib.Core.List.{List, _∷_}
-use Prim.Native.Nat.{ℕ, _+_, _≤_, _<_}
+use Prim.Native.Nat.{ℕ, _+_, _≤_, _<_, max}
 use lib.IntN.{ℤ}
 use Rattle.rules.specs.declared.Answer.{Answer}
 use Rattle.rules.specs.declared.Answer.the-variants.{Done, NoRoom}
@@ -11,15 +11,30 @@ use Rattle.rules.specs.WhatTheIndexDoes.{GREATEST, document01, isIdentifier, is
 use Rattle.rules.specs.Table.{Table, free, used, next, childCodes}
 use Rattle.rules.specs.ASoundTable.{sound}
 use Rattle.rules.specs.Placement.{greatestOf, placed}
-use Rattle.rules.specs.Insertion.{Course}
+use Rattle.rules.specs.Insertion.{relocate, Course, grow, collide, extend}
 use Rattle.tree.specs.Soundness.{Tree}
-use Rattle.tree.specs.Labels.{firstLabel}
-use Rattle.chain.specs.Edits.{Shown, sized, holding}
+use Rattle.tree.specs.Labels.{firstLabel, furtherLabels}
+use Rattle.chain.specs.Edits.{Shown, celled, sized, holding}
 
 -- What `label` gives: the first label, not past the greatest.
 pub record Label (rest : List ℕ) (r : ℕ) : Type 0 where
   pub is : r ≡ firstLabel document01 rest
   pub small : r ≤ GREATEST
+
+-- ---- courses, from the node s with what is left of an identifier
+
+module _ (last : ℕ) (t : Table) (s : ℕ) (rest : List ℕ) (row : ℕ) where
+  -- The label's cell is unused, and each further label gets its placed base.
+  abbrev pub growth : Course
+  growth = grow last (t .cells) (t .size) s (firstLabel document01 rest) (furtherLabels document01 rest) row
+
+  -- The node collides.
+  abbrev pub collision : Course
+  collision = collide document01 last (t .cells) (t .size) s (firstLabel document01 rest) (furtherLabels document01 rest) row
+
+  -- One or the other.
+  abbrev pub extension : Course
+  extension = extend document01 last (t .cells) (t .size) s (firstLabel document01 rest) (furtherLabels document01 rest) row
 
 -- ---- what is asked
 
@@ -72,6 +87,10 @@ pub record Retracts (base check : List ℤ) (u n : ℕ) (t : Table) : Type 0 whe
   pub past : (v : ℕ) → n < v → v ≢ u → used (t .cells) v ≡ false
 
 -- ---- what is left
+
+-- The children of s at base q, and a size that includes the cell far.
+abbrev pub relocated : Table → ℕ → ℕ → ℕ → Table
+relocated t s q far = celled (sized t (max (t .size) far)) (relocate (t .cells) s q)
 
 -- The table without the cell u, of size n.
 abbrev pub retracted : Table → ℕ → ℕ → Table

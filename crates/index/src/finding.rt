@@ -9,7 +9,6 @@ ghost use mathlib.Core.Path.{_≡_};
 ghost use mathlib.Core.List.{map};
 ghost use lib.Dec.{leb};
 ghost use lib.ListN.{length, getD};
-ghost use Rattle.numbers.specs.Stored.{Reads};
 ghost use Rattle.rules.specs.WhatTheIndexDoes.{GREATEST, codeOf, document01};
 ghost use Rattle.rules.specs.Answers.{foundOrAbsent};
 ghost use Rattle.rules.specs.Finding.{nextAt, walkAt, leafAfter, rowOf, rowFound};
@@ -27,11 +26,11 @@ pub fn row(base: &[i32], check: &[i32], key: &[u8]) -> Answer
     ensures { λ r. ⌜ r ≡ foundOrAbsent (rowFound (now (base .entry)) (now (check .entry)) document01 (now (key .entry))) ⌝ }
 {
     let reached = walk(base, check, key);
-    let n = held(base, check, key.len(), reached);
-    if n == 0 {
+    let row = held(base, check, key.len(), reached);
+    if row.0 == 0 {
         Answer::Absent
     } else {
-        Answer::Found(Row(n as u32))
+        Answer::Found(row)
     }
 }
 
@@ -55,13 +54,13 @@ pub fn walk(base: &[i32], check: &[i32], key: &[u8]) -> Reached
     Reached { cell, met }
 }
 
-// The row after the end mark, where a walk along so many characters found them all; otherwise 0.
-pub fn held(base: &[i32], check: &[i32], characters: usize, reached: Reached) -> usize
+// The row after the end mark, where a walk along so many characters found them all; otherwise row 0, which is none.
+pub fn held(base: &[i32], check: &[i32], characters: usize, reached: Reached) -> Row
     requires { ⌜ length (now base) ≤ 65536 ⌝ }
-    ensures { λ r. ⌜ Reads (rowOf (now (base .entry)) (leafAfter (now (base .entry)) (now (check .entry)) characters (record { cell = reached .cell .0; met = reached .met }))) r ⌝ }
+    ensures { λ r. ⌜ r .0 ≡ rowOf (now (base .entry)) (leafAfter (now (base .entry)) (now (check .entry)) characters (record { cell = reached .cell .0; met = reached .met })) ⌝ }
 {
     if reached.met != characters {
-        return 0;
+        return Row(0);
     }
     let leaf = next(base, check, reached.cell, Alphabet::END);
     row_of(base, leaf)
@@ -108,14 +107,18 @@ fn is_past(base: &[i32], t: Cell) -> bool
     base.len() <= t.0
 }
 
-// The row that a cell holds, or 0.
-fn row_of(base: &[i32], leaf: Cell) -> usize
-    ensures { λ r. ⌜ Reads (rowOf (now (base .entry)) (leaf .0)) r ⌝ }
+// The row that a cell holds, or row 0.
+fn row_of(base: &[i32], leaf: Cell) -> Row
+    ensures { λ r. ⌜ r .0 ≡ rowOf (now (base .entry)) (leaf .0) ⌝ }
 {
     let at = leaf.0;
     if at == 0 {
-        return 0;
+        return Row(0);
     }
     let n = numbers::minus_at(base, at);
-    if rules::is_row(n) { n } else { 0 }
+    if rules::is_row(n) {
+        Row(n as u32)
+    } else {
+        Row(0)
+    }
 }

@@ -8,16 +8,13 @@ use rules::Alphabet;
 use rules::Answer;
 use rules::Cell;
 use rules::Row;
-ghost use Prim.Native.Nat.{max};
 ghost use Rattle.rules.specs.WhatTheIndexDoes.{document01, lastCell};
 ghost use Rattle.rules.specs.Commands.{insert};
-ghost use Rattle.rules.specs.Insertion.{relocate, grow, collide, extend};
 ghost use Rattle.rules.specs.Rendering.{chained};
 ghost use Rattle.rules.specs.Calls.{soundEdit};
-ghost use Rattle.tree.specs.Labels.{firstLabel, furtherLabels};
 ghost use Rattle.chain.specs.Edits.{Shown, SomeTable, EveryTable};
 ghost use Rattle.index.specs.Promised.{Edits};
-ghost use Rattle.index.specs.Inserting.{Inserts, Extends, PlacesAnew, MovesAndGrows, Grows, Retracts, Label, Extended, Grown, retracted};
+ghost use Rattle.index.specs.Inserting.{Inserts, Extends, PlacesAnew, MovesAndGrows, Grows, Retracts, Label, growth, collision, extension, relocated, retracted, Extended, Grown};
 
 // Inserts an identifier: PRESENT, NO ROOM, or done with the number of children that changed cell.
 pub fn insert(base: &mut [i32], check: &mut [i32], key: &[u8], row: Row) -> Answer
@@ -26,8 +23,8 @@ pub fn insert(base: &mut [i32], check: &mut [i32], key: &[u8], row: Row) -> Answ
 {
     let reached = finding::walk(base, check, key);
     let held = finding::held(base, check, key.len(), reached);
-    if held != 0 {
-        return Answer::Present(Row(held as u32));
+    if held.0 != 0 {
+        return Answer::Present(held);
     }
     let met = reached.met;
     extend(base, check, reached.cell, &key[met..], row)
@@ -37,7 +34,7 @@ pub fn insert(base: &mut [i32], check: &mut [i32], key: &[u8], row: Row) -> Answ
 // collides.
 fn extend(base: &mut [i32], check: &mut [i32], s: Cell, rest: &[u8], row: Row) -> Answer
     requires { ⌜ SomeTable (Extends (now base) (now check) (s .0) (now rest) (row .0)) ⌝ }
-    ensures { λ r. ⌜ EveryTable (Extends (now (base .entry)) (now (check .entry)) (s .0) (now (rest .entry)) (row .0)) (λ t. Extended (extend document01 (lastCell (now (base .entry))) (t .cells) (t .size) (s .0) (firstLabel document01 (now (rest .entry))) (furtherLabels document01 (now (rest .entry))) (row .0)) t r (now (base .exit)) (now (check .exit))) ⌝ }
+    ensures { λ r. ⌜ EveryTable (Extends (now (base .entry)) (now (check .entry)) (s .0) (now (rest .entry)) (row .0)) (λ t. Extended (extension (lastCell (now (base .entry))) t (s .0) (now (rest .entry)) (row .0)) t r (now (base .exit)) (now (check .exit))) ⌝ }
 {
     let u = numbers::plus_at(base, s.0) + label(rest);
     if base.len() <= u {
@@ -56,7 +53,7 @@ fn extend(base: &mut [i32], check: &mut [i32], s: Cell, rest: &[u8], row: Row) -
 // The node s collides: its base becomes the placed base for its children's codes and the new one, and its children move.
 fn collide(base: &mut [i32], check: &mut [i32], s: Cell, rest: &[u8], row: Row) -> Answer
     requires { ⌜ SomeTable (Extends (now base) (now check) (s .0) (now rest) (row .0)) ⌝ }
-    ensures { λ r. ⌜ EveryTable (Extends (now (base .entry)) (now (check .entry)) (s .0) (now (rest .entry)) (row .0)) (λ t. Extended (collide document01 (lastCell (now (base .entry))) (t .cells) (t .size) (s .0) (firstLabel document01 (now (rest .entry))) (furtherLabels document01 (now (rest .entry))) (row .0)) t r (now (base .exit)) (now (check .exit))) ⌝ }
+    ensures { λ r. ⌜ EveryTable (Extends (now (base .entry)) (now (check .entry)) (s .0) (now (rest .entry)) (row .0)) (λ t. Extended (collision (lastCell (now (base .entry))) t (s .0) (now (rest .entry)) (row .0)) t r (now (base .exit)) (now (check .exit))) ⌝ }
 {
     let mut codes = [0; Alphabet::GREATEST + 1];
     let n = moving::collect(base, check, s, label(rest), &mut codes);
@@ -73,7 +70,7 @@ fn place_anew(
     codes: &[usize],
 ) -> Answer
     requires { ⌜ SomeTable (PlacesAnew (now base) (now check) (s .0) (now rest) (row .0) (now codes)) ⌝ }
-    ensures { λ r. ⌜ EveryTable (PlacesAnew (now (base .entry)) (now (check .entry)) (s .0) (now (rest .entry)) (row .0) (now (codes .entry))) (λ t. Extended (collide document01 (lastCell (now (base .entry))) (t .cells) (t .size) (s .0) (firstLabel document01 (now (rest .entry))) (furtherLabels document01 (now (rest .entry))) (row .0)) t r (now (base .exit)) (now (check .exit))) ⌝ }
+    ensures { λ r. ⌜ EveryTable (PlacesAnew (now (base .entry)) (now (check .entry)) (s .0) (now (rest .entry)) (row .0) (now (codes .entry))) (λ t. Extended (collision (lastCell (now (base .entry))) t (s .0) (now (rest .entry)) (row .0)) t r (now (base .exit)) (now (check .exit))) ⌝ }
 {
     let q = placing::place(base, check, codes);
     let far = q + placing::greatest(codes);
@@ -100,7 +97,7 @@ fn move_and_grow(
     codes: &[usize],
 ) -> bool
     requires { ⌜ SomeTable (MovesAndGrows (now base) (now check) (s .0) (now rest) (row .0) q far (now codes)) ⌝ }
-    ensures { λ r. ⌜ EveryTable (MovesAndGrows (now (base .entry)) (now (check .entry)) (s .0) (now (rest .entry)) (row .0) q far (now (codes .entry))) (λ t. Grown (grow (lastCell (now (base .entry))) (relocate (t .cells) (s .0) q) (max (t .size) far) (s .0) (firstLabel document01 (now (rest .entry))) (furtherLabels document01 (now (rest .entry))) (row .0)) t r (now (base .exit)) (now (check .exit))) ⌝ }
+    ensures { λ r. ⌜ EveryTable (MovesAndGrows (now (base .entry)) (now (check .entry)) (s .0) (now (rest .entry)) (row .0) q far (now (codes .entry))) (λ t. Grown (growth (lastCell (now (base .entry))) (relocated t (s .0) q far) (s .0) (now (rest .entry)) (row .0)) t r (now (base .exit)) (now (check .exit))) ⌝ }
 {
     let size = numbers::plus_at(base, 0);
     let b = numbers::plus_at(base, s.0);
@@ -119,13 +116,13 @@ fn move_and_grow(
 // has changed.
 fn grow(base: &mut [i32], check: &mut [i32], s: Cell, rest: &[u8], row: Row) -> bool
     requires { ⌜ SomeTable (Grows (now base) (now check) (s .0) (now rest) (row .0)) ⌝ }
-    ensures { λ r. ⌜ EveryTable (Grows (now (base .entry)) (now (check .entry)) (s .0) (now (rest .entry)) (row .0)) (λ t. Grown (grow (lastCell (now (base .entry))) (t .cells) (t .size) (s .0) (firstLabel document01 (now (rest .entry))) (furtherLabels document01 (now (rest .entry))) (row .0)) t r (now (base .exit)) (now (check .exit))) ⌝ }
+    ensures { λ r. ⌜ EveryTable (Grows (now (base .entry)) (now (check .entry)) (s .0) (now (rest .entry)) (row .0)) (λ t. Grown (growth (lastCell (now (base .entry))) t (s .0) (now (rest .entry)) (row .0)) t r (now (base .exit)) (now (check .exit))) ⌝ }
 {
     let size = numbers::plus_at(base, 0);
     let u = numbers::plus_at(base, s.0) + label(rest);
     cells::claim(base, check, Cell(u), s);
     if rest.len() == 0 {
-        numbers::put_minus(base, u, row.0 as usize);
+        cells::put_row(base, Cell(u), row);
         return true;
     }
     let further = &rest[1..];

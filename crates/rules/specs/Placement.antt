@@ -30,8 +30,11 @@ placed used size codes = firstFrom (opens used codes) size 1
 unfoldable pub fits : ℕ → List ℕ → ℕ → Bool
 fits last codes q = leb (q + greatestOf codes) last
 
--- What the inner search gives on a chain that may leave free cells out: the smallest q of 1 or more whose least q + code is on
--- that chain or past the size and for which every q + code is unused.
+-- What the inner search asks of a base, on a chain that may leave free cells out: its least q + code is on that chain or past the
+-- size, and every q + code is unused.
+abbrev pub suits : (ℕ → Bool) → (ℕ → Bool) → ℕ → List ℕ → ℕ → Bool
+suits chain used size codes q = (chain (q + leastOf codes) || ltb size (q + leastOf codes)) && opens used codes q
+
+-- What the inner search gives: the smallest q of 1 or more that suits.
 unfoldable pub sought : (ℕ → Bool) → (ℕ → Bool) → ℕ → List ℕ → ℕ
-sought chain used size codes =
-    firstFrom (λ q. (chain (q + leastOf codes) || ltb size (q + leastOf codes)) && opens used codes q) size 1
+sought chain used size codes = firstFrom (suits chain used size codes) size 1

@@ -2,7 +2,7 @@
 -- codes. What the search along a chain gives is that base, where the chain names every free cell. Assumes nothing.
 use mathlib.Core.Path.{_≡_, refl, sym, subst}
 use mathlib.Core.Logic.{inl, inr, ⊎-elim}
-use mathlib.Core.Bool.{Bool, true, false, not, _&&_, _||_, or-true}
+use mathlib.Core.Bool.{Bool, true, false, not, _||_, or-true}
 use mathlib.Core.List.{List, [], _∷_}
 use Prim.Native.Nat.{ℕ, _+_, _≤_, _<_}
 use native.Mathlib.Nat.{min-eq-left, min-eq-right, le-of-lt}
@@ -11,7 +11,7 @@ use lib.ListN.{length}
 use lib.Dec.{ltb}
 use borrow.Author.Tests.{not-true, lt-ltb}
 use Rattle.numbers.proofs.Cases.{lt-or-ge}
-use Rattle.rules.specs.Placement.{leastOf, greatestOf, opens, placed, sought}
+use Rattle.rules.specs.Placement.{leastOf, greatestOf, opens, placed, suits, sought}
 use Rattle.rules.proofs.Choices.{both, join-second}
 use Rattle.rules.proofs.Ranges.{first-least, first-low, first-passes, first-same}
 use Rattle.tree.specs.Members.{Among}
@@ -80,9 +80,16 @@ module _ (used : ℕ → Bool) where
     pub placed-within : 1 ≤ size → ((c : ℕ) → Among c cs → 1 ≤ c) → placed used size cs ≤ size
     placed-within h low = placed-least size cs size h (each-opens cs size (λ c m. past _ (omega (arith, low c m))))
 
--- What the search along a chain asks of a base: its least cell is on the chain or past the size, and it opens.
-abbrev pub suits : (ℕ → Bool) → (ℕ → Bool) → ℕ → List ℕ → ℕ → Bool
-suits chain used size codes q = (chain (q + leastOf codes) || ltb size (q + leastOf codes)) && opens used codes q
+-- What the search along a chain gives suits, and is the least that does; so there is one for every chain.
+module _ (chain used : ℕ → Bool) (size : ℕ) (codes : List ℕ) where
+  pub sought-least : (m : ℕ) → 1 ≤ m → suits chain used size codes m ≡ true → sought chain used size codes ≤ m
+  unfolding sought
+  sought-least = first-least (suits chain used size codes) size 1
+
+  pub sought-suits : ((t : ℕ) → size < t → used t ≡ false) → suits chain used size codes (sought chain used size codes) ≡ true
+  unfolding sought
+  sought-suits past = first-passes (suits chain used size codes) size 1
+      (rw (lt-ltb size (1 + size + leastOf codes) (omega arith), or-true) (each-opens used codes (1 + size) (λ c m. past _ (omega arith))))
 
 -- Where the chain names every free cell, it gives the placed base.
 module _ (chain used : ℕ → Bool) (size : ℕ) (names : (u : ℕ) → 1 ≤ u → u ≤ size → chain u ≡ not (used u))

@@ -19,7 +19,7 @@ abbrev μ-loop : tie.MeasureT-loop
 μ-loop check size codes low u₀ u = suc size - u
 
 least-requires : tie.Need-least-requires Inv-loop μ-loop
-least-requires c κs = c .before .pre .codes-are .some
+least-requires c κs = c .before .pre .wanted .some
 
 minus-at-requires : tie.Need-minus-at-requires Inv-loop μ-loop
 minus-at-requires c κs = search needs
@@ -31,7 +31,7 @@ sub-opens : tie.Need-sub-opens Inv-loop μ-loop
 sub-opens c = omega arith
 
 opens-requires : tie.Need-opens-requires Inv-loop μ-loop
-opens-requires c κs = (omega arith, c .before .before .before .before .before .before .pre .codes-are)
+opens-requires c κs = (omega arith, c .before .before .before .before .before .before .pre .wanted)
 
 sub-result : tie.Need-sub-result Inv-loop μ-loop
 sub-result c = omega arith

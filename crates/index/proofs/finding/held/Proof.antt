@@ -1,24 +1,22 @@
--- `held` gives the row after the end mark, or 0 where the walk stopped before. Assumes nothing.
-use mathlib.Core.Path.{_≡_, refl}
+-- `held` gives the row after the end mark, or row 0 where the walk stopped before. Assumes nothing.
+use mathlib.Core.Path.{_≡_}
 use mathlib.Core.Logic.{_≢_}
 use mathlib.Core.List.{List}
 use Prim.Native.Nat.{ℕ}
-use native.Mathlib.Omega.{arith}
 use lib.IntN.{ℤ}
 use borrow.Author.Needs.{needs}
 use borrow.Author.Tests.{eq-eqb, ne-eqb}
-use Rattle.numbers.specs.Stored.{Reads}
 use Rattle.rules.specs.WhatTheIndexDoes.{END}
 use Rattle.rules.specs.Finding.{Reached, nextAt, leafAfter, rowOf}
 use Rattle.index.proofs.finding.held.Statement.{statement}
 use Rattle.index.proofs.finding.held.Tie as tie
 
 module _ (base check : List ℤ) (n : ℕ) (w : Reached) where
-  stopped : w .met ≢ n → Reads (rowOf base (leafAfter base check n w)) 0
+  stopped : w .met ≢ n → 0 ≡ rowOf base (leafAfter base check n w)
   unfolding rowOf leafAfter
-  stopped d = rw (ne-eqb (w .met) n d) (record { is = refl; small = omega arith })
+  stopped d = rw (ne-eqb (w .met) n d)
 
-  ended : w .met ≡ n → {leaf r : ℕ} → leaf ≡ nextAt base check (w .cell) END → Reads (rowOf base leaf) r → Reads (rowOf base (leafAfter base check n w)) r
+  ended : w .met ≡ n → {leaf r : ℕ} → leaf ≡ nextAt base check (w .cell) END → r ≡ rowOf base leaf → r ≡ rowOf base (leafAfter base check n w)
   unfolding leafAfter
   ended e to is = rw (eq-eqb (w .met) n e, ← to) is
 

@@ -5,6 +5,8 @@ use native.Mathlib.Omega.{arith}
 use borrow.Author.Needs.{needs}
 use borrow.Author.Tests.{lt-ltb}
 use Rattle.rules.specs.declared.Answer.the-variants.{Absent}
+use Rattle.rules.specs.Finding.{rowFound}
+use Rattle.rules.specs.WhatTheIndexDoes.{document01}
 use Rattle.rules.specs.Answers.{found, foundOrAbsent}
 use Rattle.index.proofs.Promises.{row-reached}
 use Rattle.index.proofs.finding.row.Statement.{statement}
@@ -24,14 +26,15 @@ walk-requires c κs = search needs
 held-requires : tie.Need-held-requires
 held-requires c κs = search needs
 
-cast-t9 : tie.Need-cast-t9
-cast-t9 c = search needs
+-- The row found.
+is-found : (c : tie.After-held) → let a = c .before .before .before .args in c .held .result .0 ≡ rowFound (a .base .now) (a .check .now) document01 (a .key .now)
+is-found c = row-reached _ _ _ (c .before .walk .ensures) (c .held .ensures)
 
 returns : tie.Need-returns
-returns c = none (row-reached _ _ _ (c .before .before .walk .ensures) (c .before .held .ensures .is)) (c .if1 .taken)
+returns c = none (is-found (c .before .before)) (c .if1 .taken)
 
 returns-2 : tie.Need-returns-2
-returns-2 c = some (row-reached _ _ _ (c .before .before .walk .ensures) (c .before .held .ensures .is)) (omega arith)
+returns-2 c = some (is-found (c .before .before)) (omega arith)
 
 pub row-spec : {M : Type 1} → statement M
-row-spec = tie.close (tie.spec walk-requires held-requires cast-t9 returns returns-2)
+row-spec = tie.close (tie.spec walk-requires held-requires returns returns-2)

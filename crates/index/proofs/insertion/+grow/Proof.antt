@@ -10,16 +10,16 @@ use lib.ListN.{length}
 use borrow.Author.Needs.{needs}
 use borrow.Fn.Kinds.{In}
 use borrow.Fn.PlainCycle.{Measures, is, falls, and}
-use Rattle.rules.specs.WhatTheIndexDoes.{GREATEST, document01, isRow}
+use Rattle.rules.specs.WhatTheIndexDoes.{GREATEST, document01}
 use Rattle.rules.specs.Table.{Table, inner}
 use Rattle.rules.proofs.Texts.{behind, first-and-rest}
-use Rattle.rules.proofs.Ranges.{within-is}
 use Rattle.tree.specs.Labels.{firstLabel}
 use Rattle.chain.specs.Search.{Codes}
-use Rattle.chain.specs.Edits.{Shown}
+use Rattle.chain.specs.Edits.{Shown, more}
 use Rattle.index.specs.Inserting.{Grows}
 use Rattle.chain.proofs.Shown.{shown-size, shown-base}
-use Rattle.index.proofs.Growing.{more, grow-claims, Begun, Goes, grow-ended, grow-retracts, grow-retracted, placed-small, grow-past, grow-onward, grow-fitted, grow-left, grow-unfitted}
+use Rattle.chain.proofs.Placed.{searches, finds-placed}
+use Rattle.index.proofs.Growing.{grow-claims, Begun, Goes, grow-ended, grow-retracts, grow-retracted, placed-small, grow-past, grow-onward, grow-fitted, grow-left, grow-unfitted}
 use Rattle.index.proofs.insertion.grow.Reads as grow
 use Rattle.index.proofs.insertion.grow.Kinds as kinds
 use Rattle.index.proofs.insertion.+grow.Lts-grow as lts
@@ -28,7 +28,7 @@ use Rattle.index.proofs.insertion.label.Reads as label
 use Rattle.index.proofs.insertion.retract.Reads as retract
 use Rattle.chain.proofs.placing.place.Reads as place
 use Rattle.numbers.proofs.plus_at.Reads as plus-at
-use Rattle.numbers.proofs.put_minus.Reads as put-minus
+use Rattle.chain.proofs.cells.put_row.Reads as put-row
 use Rattle.numbers.proofs.put_plus.Reads as put-plus
 use Rattle.index.proofs.insertion.+grow.{statement}
 use Rattle.index.proofs.insertion.+grow.Tie.{close}
@@ -58,8 +58,8 @@ claims n = (
   label.Learnt,
   claim.Asked,
   claim.Learnt,
-  put-minus.Asked,
-  put-minus.Learnt,
+  put-row.Asked,
+  put-row.Learnt,
   place.Asked,
   place.Learnt,
   retract.Asked,
@@ -121,15 +121,8 @@ module _ (n : ℕ) where
     shown = c .claim .ensures _ (grow-claims g (u-is (c .before .before .before) g));
   }
 
-  cast-put-minus : lts.Need-cast-put-minus (claims n) (at n) grow.Post
-  cast-put-minus c = search needs
-
-  put-minus-requires : lts.Need-put-minus-requires (claims n) (at n) grow.Post
-  unfolding isRow
-  put-minus-requires c κs =
-      let b = entry (c .before .before .before .before .before) in
-      let (t, g) = b .pre .1 in
-      omega (arith, within-is 1 1000000 (b .args .row .0) (g .row-is))
+  put-row-requires : lts.Need-put-row-requires (claims n) (at n) grow.Post
+  put-row-requires c κs = let (t, g) = entry (c .before .before .before .before) .pre .1 in g .row-is
 
   same-length : lts.Need-same-length (claims n) (at n) grow.Post
   same-length c = search needs
@@ -139,8 +132,8 @@ module _ (n : ℕ) where
 
   returns : lts.Need-returns (claims n) (at n) grow.Post
   returns c = λ t g.
-      let l = c .before .before .before .before in
-      grow-ended (begun (l .before .before .before) g) (omega (arith, l .if1 .taken)) (c .before .put-minus .ensures)
+      let l = c .before .before .before in
+      grow-ended (begun (l .before .before .before) g) (omega (arith, l .if1 .taken)) (c .before .put-row .ensures)
 
   -- ---- the label behind it
 
@@ -163,7 +156,7 @@ module _ (n : ℕ) where
   place-requires c κs =
       let p = c .before .before .before .before .before .before .before .before in
       let (t, g) = entry p .pre .1 in
-      ((_, begun p g .shown), one-code (c .before .before .before .label2 .ensures .small))
+      searches (begun p g .shown) (one-code (c .before .before .before .label2 .ensures .small))
 
   -- ---- after the placement
 
@@ -175,7 +168,7 @@ module _ (n : ℕ) where
   goes c g = record {
     some = omega arith;
     label-is = c .before .before .before .before .label2 .ensures .is;
-    base-is = c .place .ensures _ (begun (claiming c) g .shown);
+    base-is = finds-placed (begun (claiming c) g .shown) (one-code (c .before .before .before .before .label2 .ensures .small)) (c .place .ensures);
   }
 
   small : (c : lts.After-place (claims n) (at n) grow.Post) → c .place .result ≤ 65536
@@ -276,8 +269,7 @@ pub +grow-spec : {M : Type 1} → statement M
     (label-requires n)
     (add-u n)
     (claim-requires n)
-    (cast-put-minus n)
-    (put-minus-requires n)
+    (put-row-requires n)
     (same-length n)
     (same-length-2 n)
     (returns n)

@@ -1,5 +1,7 @@
 -- `insert` walks along the identifier; it answers PRESENT, or extends the table at the node where the walk stopped. Assumes nothing.
+use Prim.Native.Nat.{_≤_}
 use native.Mathlib.Omega.{arith}
+use lib.ListN.{length}
 use borrow.Author.Needs.{needs}
 use Rattle.index.proofs.Beginning.{long, is-present, met-within, extends, is-carried-out}
 use Rattle.index.proofs.insertion.insert.Statement.{statement}
@@ -11,8 +13,12 @@ walk-requires c κs = long (c .before .before .before .pre)
 held-requires : tie.Need-held-requires
 held-requires c κs = long (c .before .before .before .before .before .before .pre)
 
-cast-t18 : tie.Need-cast-t18
-cast-t18 c = search needs
+-- The entry and the walk, seen from the row held.
+abbrev entry : tie.After-held → tie.Start
+entry h = h .before .before .before .before .before .before .before
+
+abbrev walked : tie.After-held → tie.After-walk
+walked h = h .before .before .before
 
 same-length : tie.Need-same-length
 same-length c = search needs
@@ -21,19 +27,26 @@ same-length-2 : tie.Need-same-length-2
 same-length-2 c = search needs
 
 returns : tie.Need-returns
-returns c = is-present (c .before .before .before .before .before .before .before .before .pre) (c .before .before .before .before .walk .ensures) (c .before .held .ensures .is) (omega arith)
+returns c = let h = c .before .before in is-present (entry h .pre) (walked h .walk .ensures) (h .held .ensures) (omega arith)
+
+-- Not more characters are found than there are.
+found-within : (c : tie.Else1) → walked (c .before .before) .walk .result .met ≤ length (entry (c .before .before) .args .key .now)
+found-within c = let h = c .before .before in met-within (entry h .pre) (walked h .walk .ensures) (h .held .ensures) (c .if1 .left)
 
 sub-extend : tie.Need-sub-extend
-sub-extend c = met-within (c .before .before .before .before .before .before .before .before .before .before .pre) (c .before .before .before .before .before .before .walk .ensures) (c .before .before .before .held .ensures .is) (c .before .before .if1 .left)
+sub-extend c = found-within (c .before .before)
 
 part-extend-start : tie.Need-part-extend-start
-part-extend-start c = met-within (c .before .before .before .before .before .before .before .before .before .before .pre) (c .before .before .before .before .before .before .walk .ensures) (c .before .before .before .held .ensures .is) (c .before .before .if1 .left)
+part-extend-start c = found-within (c .before .before)
 
 part-extend-end : tie.Need-part-extend-end
 part-extend-end c = search needs
 
 extend-requires : tie.Need-extend-requires
-extend-requires c κs = (_, extends (c .before .before .before .before .before .before .before .before .before .before .before .pre) (c .before .before .before .before .before .before .before .walk .ensures) (c .before .before .before .before .held .ensures .is) (c .before .before .before .if1 .left))
+extend-requires c κs =
+    let e = c .before .before .before in
+    let h = e .before .before in
+    (_, extends (entry h .pre) (walked h .walk .ensures) (h .held .ensures) (e .if1 .left))
 
 same-length-3 : tie.Need-same-length-3
 same-length-3 c = search needs
@@ -43,11 +56,12 @@ same-length-4 c = search needs
 
 returns-2 : tie.Need-returns-2
 returns-2 c =
-    let i = c .before .before .before .before .before .before .before .before .before .before .before .before .before .before .pre in
-    let w = c .before .before .before .before .before .before .before .before .before .before .walk .ensures in
-    let n = c .before .before .before .before .before .before .before .held .ensures .is in
-    let z = c .before .before .before .before .before .before .if1 .left in
-    is-carried-out i w n z (c .before .before .extend .kept .0) (c .before .before .extend .ensures _ (extends i w n z))
+    let e = c .before .before .before .before .before .before in
+    let h = e .before .before in
+    let i = entry h .pre in
+    let w = walked h .walk .ensures in
+    let x = c .before .before .extend in
+    is-carried-out i w (h .held .ensures) (e .if1 .left) (x .kept .0) (x .ensures _ (extends i w (h .held .ensures) (e .if1 .left)))
 
 pub insert-spec : {M : Type 1} → statement M
 insert-spec =
@@ -55,7 +69,6 @@ insert-spec =
     (tie.spec
     walk-requires
     held-requires
-    cast-t18
     same-length
     same-length-2
     returns
