@@ -17,7 +17,7 @@ use Rattle.rules.specs.Table.{Table, lookup}
 use Rattle.rules.specs.Rendering.{chained, readCells, readTable}
 use Rattle.rules.specs.Finding.{walkAt, leafAfter, leafAt, rowOf, rowFound}
 use Rattle.rules.specs.Insertion.{Course, inserted}
-use Rattle.rules.specs.Commands.{insert, carriedOut}
+use Rattle.rules.specs.Commands.{Outcome, insert, carriedOut}
 use Rattle.rules.specs.Calls.{stored, soundEdit}
 use Rattle.rules.proofs.Codes.{document01-round-trip}
 use Rattle.rules.proofs.Lengths.{lengths-within}
@@ -108,7 +108,9 @@ module _ {base check : List ℤ} {key : List ℕ} {row : ℕ} (i : Inserts base 
       module _ {r : Answer} {base′ check′ : List ℤ} (len : length base′ ≡ length base) (x : Extended course t r base′ check′) where
         -- By whether the course fits.
         carried : (b : Bool) → course .fitted ≡ b →
-            Edits (stored chained document01 base check (cond b (record { answer = Done (course .count); table = course .table }) (record { answer = NoRoom; table = t }))) r base′ check′
+            let fitting : Outcome = record { answer = Done (course .count); table = course .table } in
+            let refused : Outcome = record { answer = NoRoom; table = t } in
+            Edits (stored chained document01 base check (cond b fitting refused)) r base′ check′
         carried true f = rw (rw f at (x .answer)) (stored-done base check refl len (rw f at (x .left)))
         carried false f = let (b, c) = shown-same shown (rw f at (x .left)) len in rw (rw f at (x .answer)) (stored-refused base check t refl b c)
 

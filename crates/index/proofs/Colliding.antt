@@ -32,7 +32,8 @@ use Rattle.chain.proofs.Shown.{shown-small, shown-size, shown-base}
 use Rattle.index.proofs.Extending.{s-inside}
 use Rattle.index.proofs.Leaving.{fits-left, unfit-left, left-fits, left-unfit}
 
-module _ {base check : List ℤ} {s : ℕ} {rest : List ℕ} {row q far : ℕ} {codes : List ℕ} {t : Table} (m : MovesAndGrows base check s rest row q far codes t) where
+module _ {base check : List ℤ} {s : ℕ} {rest : List ℕ} {row q far : ℕ} {codes : List ℕ} {t : Table}
+    (m : MovesAndGrows base check s rest row q far codes t) where
   abbrev T : Cells
   T = t .cells
 
@@ -78,7 +79,9 @@ module _ {base check : List ℤ} {s : ℕ} {rest : List ℕ} {row q far : ℕ} {
 
   cell-then : used R (R s .base + c) ≡ false
   cell-then =
-      let p = rw (← m .codes-are, ← m .placed-is) at (collide-place tree s c (m .extends .based) (m .extends .nowhere) (m .extends .low) (label-high document01 document01-round-trip (omega arith) rest)) in
+      let high = label-high document01 document01-round-trip (omega arith) rest in
+      let e = m .extends in
+      let p = rw (← m .codes-are, ← m .placed-is) at (collide-place tree s c (e .based) (e .nowhere) (e .low) high) in
       parentless-unused R (R s .base + c) (λ e. omega (arith, base-then, fit .new, m .extends .low)) (p .clear)
 
   base-read : {b : ℕ} → b ≡ plusAt base s → b ≡ T s .base
@@ -112,7 +115,8 @@ module _ {base check : List ℤ} {s : ℕ} {rest : List ℕ} {row q far : ℕ} {
       inside = omega (arith, s-inside (m .extends));
       based = rw base-then (fit .new);
       unused = cell-then;
-      fits = omega (arith, base-then, m .far-is, m .fits, among-greatest (c ∷ codes) c (inl refl), lengths-within base check (m .extends .shown .lengths) .0);
+      fits = let within = lengths-within base check (m .extends .shown .lengths) .0 in
+          omega (arith, base-then, m .far-is, m .fits, among-greatest (c ∷ codes) c (inl refl));
       row-is = m .extends .row-is;
     }
 
@@ -129,7 +133,8 @@ module _ {base check : List ℤ} {s : ℕ} {rest : List ℕ} {row q far : ℕ} {
     }
 
     -- The size is to fall to what it was.
-    pub shrinks : {b n : ℕ} → b ≡ plusAt base s → n ≡ plusAt base 0 → Shown base′ check′ (celled (sized t wide) (relocate R s b)) → Shrinks base′ check′ n (sized t wide)
+    pub shrinks : {b n : ℕ} → b ≡ plusAt base s → n ≡ plusAt base 0 → Shown base′ check′ (celled (sized t wide) (relocate R s b)) →
+        Shrinks base′ check′ n (sized t wide)
     shrinks e f shown = record {
       shown = rw (came-back e) at shown;
       some = omega (arith, f, shown-size (m .extends .shown), tree .some);
@@ -143,17 +148,17 @@ module _ {base check : List ℤ} {s : ℕ} {rest : List ℕ} {row q far : ℕ} {
   abbrev course : ℕ → Course
   course last = growth last (relocated t s q far) s rest row
 
-  module _ (base′ : List ℤ) {base″ check″ : List ℤ} {r : Bool} (len : length base′ ≡ length base)
-      (g : Grown (course (lastCell base′)) (relocated t s q far) r base″ check″) where
-    of-course : Grown (course (lastCell base)) (relocated t s q far) r base″ check″
-    of-course = rw (← len) g
+  pub of-course : (base′ : List ℤ) → length base′ ≡ length base → {r : Bool} {base″ check″ : List ℤ} →
+      Grown (course (lastCell base′)) (relocated t s q far) r base″ check″ → Grown (course (lastCell base)) (relocated t s q far) r base″ check″
+  of-course base′ len g = rw (← len) g
 
-    pub all-fit : r ≡ true → Grown (course (lastCell base)) t true base″ check″
-    all-fit e = let (f, shown) = fits-left of-course e in left-fits f shown
+  module _ {base′ check′ : List ℤ} {r : Bool} (g : Grown (course (lastCell base)) (relocated t s q far) r base′ check′) where
+    pub all-fit : r ≡ true → Grown (course (lastCell base)) t true base′ check′
+    all-fit e = let (f, shown) = fits-left g e in left-fits f shown
 
-    pub moved-still : r ≡ false → Shown base″ check″ (relocated t s q far)
-    moved-still e = unfit-left of-course e .1
+    pub moved-still : r ≡ false → Shown base′ check′ (relocated t s q far)
+    moved-still e = unfit-left g e .1
 
-    pub all-back : r ≡ false → {n : ℕ} → n ≡ plusAt base 0 → {base‴ check‴ : List ℤ} → Shown base‴ check‴ (sized t n) →
-        Grown (course (lastCell base)) t false base‴ check‴
-    all-back e f shown = left-unfit (unfit-left of-course e .0) (rw (f ∙ shown-size (m .extends .shown)) at shown)
+    pub all-back : r ≡ false → {n : ℕ} → n ≡ plusAt base 0 → {base″ check″ : List ℤ} → Shown base″ check″ (sized t n) →
+        Grown (course (lastCell base)) t false base″ check″
+    all-back e f shown = left-unfit (unfit-left g e .0) (rw (f ∙ shown-size (m .extends .shown)) at shown)

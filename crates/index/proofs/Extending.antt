@@ -121,7 +121,8 @@ module _ {base check : List ℤ} {s : ℕ} {rest : List ℕ} {row : ℕ} {t : Ta
         pub grown-done : r ≡ true → Extended (extension (lastCell base) t s rest row) t (Done 0) base′ check′
         grown-done y =
             let (f, shown) = fits-left g y in
-            rw is-plain (subst (λ n. Extended (growth (lastCell base) t s rest row) t (Done n) base′ check′) (grow-count (lastCell base) T (t .size) s c (furtherLabels document01 rest) row) (done f shown))
+            let none = grow-count (lastCell base) T (t .size) s c (furtherLabels document01 rest) row in
+            rw is-plain (subst (λ n. Extended (growth (lastCell base) t s rest row) t (Done n) base′ check′) none (done f shown))
 
         pub grown-none : r ≡ false → Extended (extension (lastCell base) t s rest row) t NoRoom base′ check′
         grown-none y = let (f, shown) = unfit-left g y in rw is-plain (no-room f shown)

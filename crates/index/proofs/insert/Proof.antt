@@ -63,7 +63,9 @@ same-length-6 c = search needs
 
 returns-3 : tie.Need-returns-3
 unfolding keyAllowed numberAllowed
-returns-3 c = edit-number _ _ (insert _ _) (right (c .before .before .before .before .before)) (named (c .before .before .before)) (was-no _ (c .before .is-row .ensures) (c .if3 .taken))
+returns-3 c =
+    let n = c .before .before .before in
+    edit-number _ _ (insert _ _) (right (n .before .before)) (named n) (was-no _ (c .before .is-row .ensures) (c .if3 .taken))
 
 is-sound-requires : tie.Need-is-sound-requires
 is-sound-requires c κs = search needs
@@ -76,10 +78,16 @@ same-length-8 c = search needs
 
 returns-4 : tie.Need-returns-4
 unfolding keyAllowed numberAllowed
-returns-4 c = edit-damaged _ _ (insert _ _) (right (c .before .before .before .before .before .before .before .before .before)) (named (c .before .before .before .before .before .before .before)) (rowed (c .before .before .before .before)) (was-no _ (c .before .is-sound .ensures) (c .if4 .taken))
+returns-4 c =
+    let r = c .before .before .before .before in
+    let n = r .before .before .before in
+    edit-damaged _ _ (insert _ _) (right (n .before .before)) (named n) (rowed r) (was-no _ (c .before .is-sound .ensures) (c .if4 .taken))
 
 insert-requires : tie.Need-insert-requires
-insert-requires c κs = record { whole = whole (c .before .before); identifier = named (c .before .before .before .before .before .before .before .before .before); row-is = rowed (c .before .before .before .before .before .before) }
+insert-requires c κs =
+    let w = c .before .before in
+    let r = w .before .before .before .before in
+    record { whole = whole w; identifier = named (r .before .before .before); row-is = rowed r }
 
 same-length-9 : tie.Need-same-length-9
 same-length-9 c = search needs
@@ -89,7 +97,11 @@ same-length-10 c = search needs
 
 returns-5 : tie.Need-returns-5
 unfolding keyAllowed numberAllowed
-returns-5 c = edit-sound _ _ (insert _ _) (right (c .before .before .before .before .before .before .before .before .before .before .before .before .before .before)) (named (c .before .before .before .before .before .before .before .before .before .before .before .before)) (rowed (c .before .before .before .before .before .before .before .before .before)) (whole (c .before .before .before .before .before)) (c .before .before .insert .ensures)
+returns-5 c =
+    let w = c .before .before .before .before .before in
+    let r = w .before .before .before .before in
+    let n = r .before .before .before in
+    edit-sound _ _ (insert _ _) (right (n .before .before)) (named n) (rowed r) (whole w) (c .before .before .insert .ensures)
 
 pub insert-spec : {M : Type 1} → statement M
 insert-spec =

@@ -1,6 +1,8 @@
 -- `extend` asks whether the node collides, and grows the rest where it does not. Assumes nothing.
 use native.Mathlib.Omega.{arith}
 use borrow.Author.Needs.{needs}
+use Rattle.rules.specs.Table.{Table}
+use Rattle.index.specs.Inserting.{Extends, Grows}
 use Rattle.index.proofs.Extending.{collides-past, collides-taken, grows, grown-done, grown-none}
 use Rattle.index.proofs.insertion.extend.Statement.{statement}
 use Rattle.index.proofs.insertion.extend.Tie as tie
@@ -23,8 +25,14 @@ same-length c = search needs
 same-length-2 : tie.Need-same-length-2
 same-length-2 c = search needs
 
+-- What base and the label were read to be.
+abbrev based : tie.After-label → tie.After-plus-at
+based c = c .before
+
 returns : tie.Need-returns
-returns c = λ t e. collides-past e (c .before .before .before .before .before .before .before .plus-at .ensures .is) (c .before .before .before .before .before .before .label .ensures .is) (c .before .before .collide .ensures t e) (omega arith)
+returns c = λ t e.
+    let l = c .before .before .before .before .before .before in
+    collides-past e (based l .plus-at .ensures .is) (l .label .ensures .is) (c .before .before .collide .ensures t e) (omega arith)
 
 plus-at-requires-2 : tie.Need-plus-at-requires-2
 plus-at-requires-2 c κs = search needs
@@ -40,12 +48,20 @@ same-length-4 c = search needs
 
 returns-2 : tie.Need-returns-2
 returns-2 c = λ t e.
-    collides-taken e (c .before .before .before .before .before .before .before .before .before .before .plus-at .ensures .is) (c .before .before .before .before .before .before .before .before .before .label .ensures .is) (c .before .before .collide2 .ensures t e) (omega (arith, c .before .before .before .before .before .before .plus-at2 .ensures .is))
+    let l = c .before .before .before .before .before .before .before .before .before in
+    collides-taken e (based l .plus-at .ensures .is) (l .label .ensures .is) (c .before .before .collide2 .ensures t e)
+    (omega (arith, c .before .before .before .before .before .before .plus-at2 .ensures .is))
+
+-- The rest can grow from s.
+can-grow : (c : tie.Else2) {t : Table} → let a = c .before .before .before .before .before .before .before .before .args in
+    Extends (a .base .now) (a .check .now) (a .s .0) (a .rest .now) (a .row .0) t →
+    Grows (a .base .now) (a .check .now) (a .s .0) (a .rest .now) (a .row .0) t
+can-grow c e =
+    let l = c .before .before .before .before in
+    grows e (based l .plus-at .ensures .is) (l .label .ensures .is) (omega arith) (omega (arith, c .before .plus-at2 .ensures .is))
 
 grow-requires : tie.Need-grow-requires
-grow-requires c κs =
-    let (t, e) = c .before .before .before .before .before .before .before .before .before .before .pre in
-    (t, grows e (c .before .before .before .before .before .before .before .plus-at .ensures .is) (c .before .before .before .before .before .before .label .ensures .is) (omega arith) (omega (arith, c .before .before .before .plus-at2 .ensures .is)))
+grow-requires c κs = let (t, e) = c .before .before .before .before .before .before .before .before .before .before .pre in (t, can-grow (c .before .before) e)
 
 same-length-5 : tie.Need-same-length-5
 same-length-5 c = search needs
@@ -55,10 +71,10 @@ same-length-6 c = search needs
 
 returns-3 : tie.Need-returns-3
 returns-3 c = λ t e.
-    let b = c .before .before .before .before .before .before .before .before .before .before .before .plus-at .ensures .is in
-    let d = c .before .before .before .before .before .before .before .before .before .before .label .ensures .is in
-    let clear = c .before .before .before .before .before .before .before .plus-at2 .ensures .is in
-    grown-done e b d (omega arith) (omega (arith, clear)) (c .before .before .before .grow .ensures t (grows e b d (omega arith) (omega (arith, clear)))) (c .if3 .taken)
+    let o = c .before .before .before .before .before .before in
+    let l = o .before .before .before .before in
+    grown-done e (based l .plus-at .ensures .is) (l .label .ensures .is) (omega arith) (omega (arith, o .before .plus-at2 .ensures .is))
+    (c .before .before .before .grow .ensures t (can-grow o e)) (c .if3 .taken)
 
 same-length-7 : tie.Need-same-length-7
 same-length-7 c = search needs
@@ -68,10 +84,10 @@ same-length-8 c = search needs
 
 returns-4 : tie.Need-returns-4
 returns-4 c = λ t e.
-    let b = c .before .before .before .before .before .before .before .before .before .before .before .plus-at .ensures .is in
-    let d = c .before .before .before .before .before .before .before .before .before .before .label .ensures .is in
-    let clear = c .before .before .before .before .before .before .before .plus-at2 .ensures .is in
-    grown-none e b d (omega arith) (omega (arith, clear)) (c .before .before .before .grow .ensures t (grows e b d (omega arith) (omega (arith, clear)))) (c .if3 .left)
+    let o = c .before .before .before .before .before .before in
+    let l = o .before .before .before .before in
+    grown-none e (based l .plus-at .ensures .is) (l .label .ensures .is) (omega arith) (omega (arith, o .before .plus-at2 .ensures .is))
+    (c .before .before .before .grow .ensures t (can-grow o e)) (c .if3 .left)
 
 pub extend-spec : {M : Type 1} → statement M
 extend-spec =
