@@ -23,7 +23,7 @@ use Rattle.tree.proofs.TidyTables.{tidy-past}
 use Rattle.tree.proofs.Trees.{row-low}
 use Rattle.tree.proofs.Placement.{placed-pos, placed-opens, placed-near, opens-each}
 use Rattle.tree.proofs.OneCell.{update-at, update-off}
-use Rattle.tree.proofs.Branches.{used-same}
+use Rattle.tree.proofs.Branches.{parent-same}
 use Rattle.tree.proofs.Labels.{further-none, further-some}
 use Rattle.chain.specs.Edits.{Shown, EveryTable, celled, holding, more, claimed, Claims}
 use Rattle.index.specs.Inserting.{Grows, Grown, Retracts, growth, retracted}
@@ -130,7 +130,7 @@ module _ {base check : List ℤ} {s : ℕ} {rest : List ℕ} {row : ℕ} {t : Ta
     -- Its base does not matter to what is used.
     used-more : (b : ℕ) → used (more t u (inner s b) .cells) ≡ used (claimed t u s .cells)
     unfolding used
-    used-more b = fun-ext (λ v. ap (λ p. eqb v 1 || ltb 0 p) (used-same (t .cells) u (inner s b) (inner s 0) refl v))
+    used-more b = fun-ext (λ v. ap (λ p. eqb v 1 || ltb 0 p) (parent-same (t .cells) u (inner s b) (inner s 0) refl v))
 
     course-on : whole ≡ record { table = on .table; fitted = leb (q + d) (lastCell base) && on .fitted; count = 0 }
     unfolding grow fits greatestOf

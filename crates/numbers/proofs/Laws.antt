@@ -1,4 +1,5 @@
--- Laws of `plusAt` and `minusAt`: with these no crate above reasons about a sign. Assumes nothing.
+-- Laws of a stored number's two sides, alone and as an array's element: with these no crate above reasons about a sign. Assumes
+-- nothing.
 use mathlib.Core.Path.{_≡_, refl, sym, ap, _∙_}
 use mathlib.Core.Logic.{⊎-elim}
 use mathlib.Core.List.{List}

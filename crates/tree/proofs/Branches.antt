@@ -123,8 +123,8 @@ word-high P c [] h e = omega arith
 word-high P c (d ∷ cs) h k = k .1
 
 -- A cell's base does not matter to what is used.
-pub used-same : (T : Cells) (t : ℕ) (x y : Content) → x .parent ≡ y .parent → (u : ℕ) → update T t x u .parent ≡ update T t y u .parent
-used-same T t x y e u = ⊎-elim own (λ d. rw (update-off T t x u d, update-off T t y u d)) (same? u t)
+pub parent-same : (T : Cells) (t : ℕ) (x y : Content) → x .parent ≡ y .parent → (u : ℕ) → update T t x u .parent ≡ update T t y u .parent
+parent-same T t x y e u = ⊎-elim own (λ d. rw (update-off T t x u d, update-off T t y u d)) (same? u t)
   where
     own : u ≡ t → update T t x u .parent ≡ update T t y u .parent
     own f = rw (f, update-at T t x, update-at T t y) e
@@ -149,7 +149,7 @@ module _ {P : Profile} (some : 1 ≤ P .greatest) (last n : ℕ) (row : isRow n 
         based = rw f h;
         low = word-low P d ds wd;
         high = word-high P d ds some wd;
-        clear = rw f (used-same T t (inner s q) (inner s 1) refl (q + d) ∙ unused-parent (update T t (inner s 1)) (q + d) e);
+        clear = rw f (parent-same T t (inner s q) (inner s 1) refl (q + d) ∙ unused-parent (update T t (inner s 1)) (q + d) e);
       }
 
   pub grow-grown : (cs : List ℕ) (c : ℕ) {T : Cells} {size s : ℕ} (path : List ℕ) → Tree P T size → Word P c cs → node T path ≡ s →

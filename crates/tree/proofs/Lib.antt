@@ -45,7 +45,7 @@ pub mod EmptyTable
 pub mod PlainList
 pub mod AnyHistory
 pub mod Finding
+pub mod AnExample
 -- Where the walk stops, insertion begins.
 pub mod Stopping
 pub mod Labels
-pub mod AnExample

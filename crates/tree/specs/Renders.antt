@@ -1,4 +1,4 @@
--- What it is that two arrays are the rendering of a table, and what a table keeps even while its children move.
+-- What it is that two arrays are the rendering of a table, and what a table keeps even while a node's children move.
 use mathlib.Core.Path.{_≡_}
 use mathlib.Core.Logic.{_≢_}
 use mathlib.Core.Bool.{true}
@@ -23,8 +23,8 @@ pub record Rendering (F : Table → Type 0) (K : Kind) (P : Profile) (base check
 abbrev pub Renders : Kind → Profile → List ℤ → List ℤ → Table → Type 0
 Renders K P = Rendering (Sound P) K P
 
--- What an edit keeps at each of its stores: only a used cell holds anything, none lies past the size, and none has both a base
--- and a row.
+-- What an edit keeps at each of its stores: the root has no parent, only a used cell holds anything, none lies past the size, which
+-- is 1 or more, and none has both a base and a row.
 pub record Tidy (t : Table) : Type 0 where
   pub nowhere : t .cells 0 ≡ free
   pub root-parent : t .cells 1 .parent ≡ 0

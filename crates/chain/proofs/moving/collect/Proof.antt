@@ -1,5 +1,5 @@
 -- `collect` writes the codes of a cell's children behind another code. The loop's invariant: the codes written, with those that
--- check has yet to tell behind them, are all of them. Assumes nothing.
+-- check has yet to tell behind them, are all of them. The measure is the code at hand. Assumes nothing.
 use mathlib.Core.Path.{_≡_, refl, sym, ap, _∙_}
 use mathlib.Core.Logic.{⊎-elim}
 use mathlib.Core.Bool.{true, false, cond}

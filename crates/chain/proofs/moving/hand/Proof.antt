@@ -1,5 +1,5 @@
 -- `hand` hands the children of a cell to another. The loop's invariant: the arrays show those up to the cell b + k handed over.
--- Assumes nothing.
+-- The measure is what is left to the greatest code. Assumes nothing.
 use mathlib.Core.Path.{_≡_, sym, ap, _∙_}
 use mathlib.Core.Bool.{true, false}
 use mathlib.Core.List.{List}

@@ -1,5 +1,5 @@
 -- `relocate` moves the children of a cell to another base. The loop's invariant: the arrays show the table after the moves of the
--- children whose codes stand from i on. Assumes nothing.
+-- children whose codes stand from i on. The measure is i. Assumes nothing.
 use mathlib.Core.Path.{_≡_, refl, sym, _∙_}
 use mathlib.Core.List.{List}
 use Prim.Native.Nat.{ℕ, suc, _+_, _-_, _≤_, _<_}
