@@ -60,7 +60,7 @@ fn collide(base: &mut [i32], check: &mut [i32], s: Cell, rest: &[u8], row: Row) 
     place_anew(base, check, s, rest, row, &codes[..n])
 }
 
-// The codes are the new one and behind it those of the children of s.
+// Seeks the base for these codes: the new one and behind it those of the children of s. The base has to fit.
 fn place_anew(
     base: &mut [i32],
     check: &mut [i32],

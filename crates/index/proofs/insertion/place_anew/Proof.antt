@@ -47,10 +47,10 @@ some-code : (c : tie.Start) → 0 < length (c .args .codes .now)
 some-code c = let (t, a) = c .pre in anew-codes a .some
 
 sub-move-and-grow : tie.Need-sub-move-and-grow
-sub-move-and-grow c = some-code (c .before .before .before .before .before .before .before .before .before)
+sub-move-and-grow c = omega (arith, some-code (c .before .before .before .before .before .before .before .before .before))
 
 part-move-and-grow-start : tie.Need-part-move-and-grow-start
-part-move-and-grow-start c = some-code (c .before .before .before .before .before .before .before .before .before)
+part-move-and-grow-start c = omega (arith, some-code (c .before .before .before .before .before .before .before .before .before))
 
 part-move-and-grow-end : tie.Need-part-move-and-grow-end
 part-move-and-grow-end c = search needs
@@ -68,7 +68,7 @@ move-and-grow-requires c κs =
     (t, can-move e a)
 
 sub-t25 : tie.Need-sub-t25
-sub-t25 c = some-code (c .before .before .before .before .before .before .before .before .before .before .before .before .before .before)
+sub-t25 c = omega (arith, some-code (c .before .before .before .before .before .before .before .before .before .before .before .before .before .before))
 
 same-length-3 : tie.Need-same-length-3
 same-length-3 c = search needs
