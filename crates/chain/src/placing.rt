@@ -7,7 +7,7 @@ ghost use Rattle.rules.specs.Placement.{leastOf, greatestOf, opens};
 ghost use Rattle.chain.specs.Search.{takenAt, Codes, Searches, Finds};
 
 // What the inner search finds at the size that base[0] states. Where the chain names every free cell, that is the placed base; but
-// this promise is the search's own, so that nothing but the search meets it.
+// this promise is the search's own, chains with gaps included, so that trying 1, 2, 3 and upward does not meet it.
 pub fn place(base: &[i32], check: &[i32], codes: &[usize]) -> usize
     requires { ⌜ Searches (now check) (sizeAt (now base)) (now codes) ⌝ }
     ensures { λ r. ⌜ Finds (now (check .entry)) (sizeAt (now (base .entry))) (now (codes .entry)) r ⌝ }
