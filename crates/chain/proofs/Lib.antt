@@ -3,6 +3,7 @@ pub mod NextFree
 pub mod Shown
 pub mod Stores
 pub mod Holding
+pub mod Outcomes
 -- The search.
 pub mod TakenCells
 pub mod Seeking
@@ -12,6 +13,7 @@ pub mod AGap
 pub mod Resizing
 pub mod Relinking
 -- A node's children.
+pub mod Collected
 pub mod Handing
 pub mod OneHop
 pub mod HopByHop

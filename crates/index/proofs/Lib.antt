@@ -1,10 +1,2 @@
--- Laws that the proofs of several functions use.
-mod Promises
--- An insertion: what its course leaves, and the node at which it begins.
+-- What an edit's call promises in each of its cases.
 mod Editing
-mod Beginning
-mod Leaving
-mod Growing
-mod Colliding
-mod PlacingAnew
-mod Extending

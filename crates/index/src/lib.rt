@@ -1,8 +1,5 @@
 // The public calls. None of them asks anything of its caller: each has a promise for arrays of any lengths and contents and for
 // any command, refused ones included, and it determines the answer and every element of the arrays that are lent.
-mod finding;
-mod insertion;
-
 use rules::Answer;
 use rules::Row;
 ghost use lib.ListN.{length, replicate};
@@ -10,8 +7,8 @@ ghost use mathlib.Core.Path.{_≡_};
 ghost use Rattle.numbers.specs.Stored.{positive};
 ghost use Rattle.rules.specs.WhatTheIndexDoes.{document01};
 ghost use Rattle.rules.specs.Rendering.{chained};
-ghost use Rattle.rules.specs.Calls.{freshCall, findCall, insertCall, auditCall};
-ghost use Rattle.index.specs.Promised.{Answers, Edits};
+ghost use Rattle.rules.specs.Calls.{freshCall, findCall, insertCall, deleteCall, compactCall, auditCall};
+ghost use Rattle.rules.specs.Promised.{Answers, Edits};
 
 // Makes the empty table, whatever the arrays held: SIZE, or done.
 pub fn fresh(base: &mut [i32], check: &mut [i32]) -> Answer
@@ -71,6 +68,38 @@ pub fn insert(base: &mut [i32], check: &mut [i32], key: &[u8], row: Row) -> Answ
         return Answer::Damaged;
     }
     insertion::insert(base, check, key, row)
+}
+
+// Deletes an identifier: SIZE, KEY, DAMAGED, ABSENT, or done with the row removed.
+pub fn delete(base: &mut [i32], check: &mut [i32], key: &[u8]) -> Answer
+    ensures { λ r. ⌜ Edits (deleteCall chained document01 (now (base .entry)) (now (check .entry)) (now (key .entry))) r (now (base .exit)) (now (check .exit)) ⌝ }
+{
+    if !rules::right_lengths(base, check) {
+        return Answer::Size;
+    }
+    if !rules::is_identifier(key) {
+        return Answer::Key;
+    }
+    if !audit::is_sound(base, check) {
+        return Answer::Damaged;
+    }
+    deletion::delete(base, check, key)
+}
+
+// Compacts the table by at most n moves: SIZE, NUMBER, DAMAGED, or done with the moves made.
+pub fn compact(base: &mut [i32], check: &mut [i32], n: usize) -> Answer
+    ensures { λ r. ⌜ Edits (compactCall chained document01 (now (base .entry)) (now (check .entry)) n) r (now (base .exit)) (now (check .exit)) ⌝ }
+{
+    if !rules::right_lengths(base, check) {
+        return Answer::Size;
+    }
+    if rules::MOST_MOVES < n {
+        return Answer::Number;
+    }
+    if !audit::is_sound(base, check) {
+        return Answer::Damaged;
+    }
+    deletion::compact(base, check, n)
 }
 
 // Says whether the arrays hold a sound table: SIZE, DAMAGED, or done.

@@ -36,6 +36,10 @@ pub record Ran : Type 0 where
   pub check : List ℤ
   pub out : List ℕ
 
+-- A refused call changes no byte of the buffer.
+abbrev pub unwritten : List ℕ → Answer → Written
+unwritten out a = record { answer = a; out = out }
+
 -- A refused call changes no element.
 abbrev pub unchanged : List ℤ → List ℤ → Answer → Edited
 unchanged base check a = record { answer = a; base = base; check = check }
@@ -52,6 +56,13 @@ module _ (P : Profile) (base check : List ℤ) where
   findCall key =
       let keyed = cond (isIdentifier P key) (foundOrAbsent (rowFound base check P key)) Key in
       cond (rightLengths base check) keyed Size
+
+  -- On a table known to be sound, the listing: NO SPACE, or done with the bytes written; the bytes past them stay.
+  unfoldable pub soundList : List ℕ → Written
+  soundList out =
+      let bytes = listing P (readCells base check) in
+      let done : Written = record { answer = Done (length bytes); out = sets out 0 bytes } in
+      cond (leb (length bytes) (length out)) done (unwritten out NoSpace)
 
 module _ (K : Kind) (P : Profile) (base check : List ℤ) where
   -- What an outcome leaves in the arrays: where it is done, its table's rendering.
@@ -96,15 +107,11 @@ module _ (K : Kind) (P : Profile) (base check : List ℤ) where
       let audited = cond (K .audit P base check) (Done 0) Damaged in
       cond (rightLengths base check) audited Size
 
-  -- list: SIZE, DAMAGED, NO SPACE, or done with the bytes written; the bytes past them stay.
+  -- list: SIZE, DAMAGED, then NO SPACE or done.
   unfoldable pub listCall : List ℕ → Written
   listCall out =
-      let refused : Answer → Written = λ a. record { answer = a; out = out } in
-      let bytes = listing P (readCells base check) in
-      let done : Written = record { answer = Done (length bytes); out = sets out 0 bytes } in
-      let measured = cond (leb (length bytes) (length out)) done (refused NoSpace) in
-      let audited = cond (K .audit P base check) measured (refused Damaged) in
-      cond (rightLengths base check) audited (refused Size)
+      let audited = cond (K .audit P base check) (soundList P base check out) (unwritten out Damaged) in
+      cond (rightLengths base check) audited (unwritten out Size)
 
   -- run: SIZE, DAMAGED, NO SPACE for the whole; then the lines in turn, done with the number of them.
   unfoldable pub runCall : List ℕ → List ℕ → Ran

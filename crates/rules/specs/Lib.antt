@@ -14,7 +14,8 @@ pub mod Table
 pub mod Commands
 pub mod Answers
 pub mod Ranges
--- The two arrays: how a table stands in them, the eight calls, and the plain method of demand 3.
+-- The two arrays: how a table stands in them, the eight calls, the form of a call's promise, and the plain method of demand 3.
 pub mod Rendering
 pub mod Calls
+pub mod Promised
 pub mod PlainMethod

@@ -53,6 +53,9 @@ pub const LIMIT: usize = 32;
 // The greatest length of the arrays.
 pub const LONGEST: usize = 65536;
 
+// The greatest number of moves that a compaction can be asked for.
+pub const MOST_MOVES: usize = 65535;
+
 // Whether arrays of these lengths can hold a table: equal lengths, 2 to 65,536 elements.
 pub fn right_lengths(base: &[i32], check: &[i32]) -> bool
     ensures { λ r. ⌜ r ≡ rightLengths (now (base .entry)) (now (check .entry)) ⌝ }

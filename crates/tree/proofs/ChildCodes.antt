@@ -1,10 +1,10 @@
 -- The codes of a cell's children are those that lead on, and a cell is childless where none does. Where a base lies. Assumes
 -- nothing.
-use mathlib.Core.Path.{_≡_, refl, sym, ap, _∙_}
+use mathlib.Core.Path.{_≡_, refl, sym, ap, _∙_, subst}
 use mathlib.Core.Logic.{_≢_, inl, inr, ⊎-elim}
 use mathlib.Core.Bool.{Bool, true, false}
 use mathlib.Core.List.{List, [], _∷_, cons≢nil}
-use Prim.Native.Nat.{ℕ, zero, suc, _≤_}
+use Prim.Native.Nat.{ℕ, zero, suc, _+_, _≤_}
 use native.Mathlib.Omega.{arith}
 use lib.ListN.{length, drop}
 use lib.Seq.{drop-nil}
@@ -14,10 +14,16 @@ use Rattle.numbers.proofs.Cases.{same?, some?}
 use Rattle.rules.specs.WhatTheIndexDoes.{Profile}
 use Rattle.rules.specs.Table.{Cells, Table, next, childCodes, childless}
 use Rattle.rules.proofs.Choices.{branch}
+use Rattle.rules.proofs.Texts.{none-left}
 use Rattle.tree.specs.Soundness.{Step, Tree, Sound}
 use Rattle.tree.specs.Members.{Among, Once}
 use Rattle.tree.proofs.Steps.{step-next, step?, next-step, next-baseless}
 use Rattle.tree.proofs.Trees.{used-pos, based-used, step-used, step-low, step-high, step-far}
+
+-- A list with a member is not empty.
+pub among-length : (cs : List ℕ) (c : ℕ) → Among c cs → 1 ≤ length cs
+among-length [] c m = absurd m
+among-length (d ∷ cs) c m = omega arith
 
 module _ (T : Cells) (s : ℕ) where
   pub codes-lead : (k c : ℕ) → Among c (childCodes T s k) → (1 ≤ c) × (c ≤ k) × (1 ≤ next T s c)
@@ -56,16 +62,13 @@ module _ (T : Cells) (s : ℕ) where
       (λ e. codes-once k)
       (λ e. (λ a. absurd (omega (arith, codes-lead k (suc k) a .1)), codes-once k))
 
-  -- A list with a member is not empty.
-  among-length : (cs : List ℕ) (c : ℕ) → Among c cs → 1 ≤ length cs
-  among-length [] c m = absurd m
-  among-length (d ∷ cs) c m = omega arith
+  pub childless-codes : (k : ℕ) → childless T s k ≡ true → childCodes T s k ≡ []
+  unfolding childless
+  childless-codes k e = let z : length (childCodes T s k) ≡ 0 = eqb-true _ _ e in none-left (childCodes T s k) (omega arith)
 
   childless-next : (k c : ℕ) → childless T s k ≡ true → 1 ≤ c → c ≤ k → next T s c ≡ 0
-  unfolding childless
-  childless-next k c e l h =
-      let z : length (childCodes T s k) ≡ 0 = eqb-true _ _ e in
-      ⊎-elim (λ n. n) (λ n. absurd (omega (arith, among-length (childCodes T s k) c (lead-codes k c l h n)))) (some? (next T s c))
+  childless-next k c e l h = ⊎-elim
+      (λ n. n) (λ n. absurd (subst (Among c) (childless-codes k e) (lead-codes k c l h n))) (some? (next T s c))
 
   pub childless-baseless : (k : ℕ) → T s .base ≡ 0 → childless T s k ≡ true
   unfolding childless childCodes
@@ -83,6 +86,11 @@ module _ (T : Cells) (s : ℕ) where
 module _ {P : Profile} {T : Cells} {size : ℕ} (w : Tree P T size) where
   pub step-among : {s c t : ℕ} → Step T s c t → Among c (childCodes T s (P .greatest))
   step-among {s} {c} p = lead-codes T s (P .greatest) c (step-low w p) (step-high w p) (rw (step-next T p) (omega (arith, step-far w p)))
+
+  pub children-inside : (s c : ℕ) → Among c (childCodes T s (P .greatest)) → T s .base + c ≤ size
+  children-inside s c a =
+      let p = next-step T {s = s} {c = c} (codes-lead T s (P .greatest) c a .2) in
+      omega (arith, p .at, w .inside (next T s c) (step-used w p))
 
   -- No cell has a childless one for its parent.
   pub childless-alone : (s : ℕ) → childless T s (P .greatest) ≡ true → 1 ≤ s → (u : ℕ) → T u .parent ≢ s

@@ -2,7 +2,7 @@
 use mathlib.Core.Path.{_≡_, refl, sym, ap, _∙_}
 use mathlib.Core.Bool.{_&&_, true≢false}
 use mathlib.Core.List.{List, reverse}
-use Prim.Native.Nat.{ℕ, zero, suc, _+_, _≤_}
+use Prim.Native.Nat.{ℕ, zero, suc, _+_, _≤_, _<_}
 use native.Mathlib.Omega.{arith}
 use lib.Dec.{ltb, eqb}
 use borrow.Author.Tests.{lt-ltb, ltb-true}
@@ -11,7 +11,8 @@ use Rattle.rules.specs.Table.{Table, used, largestUsed, next, lookup, childCode
 use Rattle.rules.specs.Insertion.{relocate}
 use Rattle.rules.specs.DeletionAndCompaction.{Moves, trimmed, compactionStep, compactionSteps, compacted}
 use Rattle.rules.proofs.Choices.{branch, both, join}
-use Rattle.tree.specs.Soundness.{Sound}
+use Rattle.tree.specs.Soundness.{Sits, Sound}
+use Rattle.tree.specs.Moved.{Fit}
 use Rattle.tree.specs.StepsTaken.{top, owner, target, Lowers}
 use Rattle.tree.specs.AfterAnEdit.{Now, Same, Trimmed}
 use Rattle.tree.proofs.Steps.{step-next, lookup-same}
@@ -45,6 +46,10 @@ module _ (P : Profile) (t : Table) where
   unfolding trimmed
   step-less h = step-cases (λ m. m .table .size ≤ t .size) (λ _. largest-low _ (t .size) h) (λ _. largest-low _ (t .size) h)
 
+  pub step-trimmed : trimmed (compactionStep P t .table .cells) (t .size) ≡ compactionStep P t .table
+  unfolding trimmed
+  step-trimmed = step-cases (λ m. trimmed (m .table .cells) (t .size) ≡ m .table) (λ _. refl) (λ _. refl)
+
   step-tight : Tight (compactionStep P t .table)
   unfolding trimmed
   step-tight = step-cases (λ m. Tight (m .table)) (λ _. sym (largest-again _ (t .size))) (λ _. sym (largest-again _ (t .size)))
@@ -69,21 +74,31 @@ module _ {P : Profile} where
   same-self : {t : Table} → Sound P t → Same P t t
   same-self w = record { sound = w; rows = λ r. refl; less = omega arith }
 
+  pub trim-sound : {t : Table} → Sound P t → Sound P (trimmed (t .cells) (t .size))
+  unfolding trimmed
+  trim-sound w = record { tree = trimmed-tree (w .tree); fruit = w .fruit; bare = w .bare; deep = w .deep }
+
   trim-same : {t t′ : Table} → Same P t t′ → Same P t (trimmed (t′ .cells) (t′ .size))
   unfolding trimmed
-  trim-same {t} {t′} a =
-      let w = a .sound in
-      record {
-        sound = record { tree = trimmed-tree (w .tree); fruit = w .fruit; bare = w .bare; deep = w .deep };
-        rows = a .rows;
-        less = omega (arith, largest-low (t′ .cells) (t′ .size) (w .tree .some), a .less);
-      }
+  trim-same {t} {t′} a = record {
+    sound = trim-sound (a .sound);
+    rows = a .rows;
+    less = omega (arith, largest-low (t′ .cells) (t′ .size) (a .sound .tree .some), a .less);
+  }
+
+  module _ {t : Table} (w : Sound P t) (below : 1 < top P t) where
+    -- The largest used cell sits below its parent, whose children can move to their placed base.
+    pub top-sits : Sits P (t .cells) (top P t)
+    top-sits = w .tree .sits (top P t) (largest-parent (t .cells) (t .size) below)
+
+    pub target-fit : Fit (t .cells) (owner P t) (t .cells (owner P t) .base) (target P t)
+    target-fit = placed-fit (w .tree) (owner P t) (top-sits .step .based) (childCodes (t .cells) (owner P t) (P .greatest)) (λ c a. a)
 
   move-same : {t : Table} → Sound P t → Lowers P t → Same P t (record { cells = relocate (t .cells) (owner P t) (target P t); size = t .size })
   unfolding relocate
   move-same {t} w l =
-      let k = w .tree .sits (top P t) (largest-parent (t .cells) (t .size) (l .below)) in
-      let m = placed-fit (w .tree) (owner P t) (k .step .based) (childCodes (t .cells) (owner P t) (P .greatest)) (λ c a. a) in
+      let k = top-sits w (l .below) in
+      let m = target-fit w (l .below) in
       let b = t .cells (owner P t) .base in
       let n : 1 ≤ next (t .cells) (owner P t) (k .code) = rw (step-next (t .cells) (k .step)) (omega arith) in
       let fits : (c : ℕ) → t .cells (b + c) .parent ≡ owner P t → target P t + c ≤ t .size = (λ c e. omega (arith, l .lower, w .tree .inside (b + c) (rw e (s-pos (w .tree) m)))) in

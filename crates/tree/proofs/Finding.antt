@@ -124,6 +124,20 @@ module _ {K : Kind} {P : Profile} {base check : List ℤ} (r : Renders K P base 
       let cell = walk-same 1 key k ∙ walk-node T codes [] in
       next-reached (eqb (w .met) (length key)) (w .cell) ∙ ap (λ (s : ℕ). nextAt base check s END) cell ∙ next-same (node T (reverse codes)) END (omega arith) ∙ ap (node T) (sym (path-labels P key))
 
+  -- A row is found only where every character was.
+  all-reached : (b : Bool) (s : ℕ) → 1 ≤ rowOf base (cond b (nextAt base check s END) 0) → cond b s 0 ≡ s
+  unfolding rowOf
+  all-reached true s h = refl
+  all-reached false s h = absurd (omega arith)
+
+  pub reached-node : (key : List ℕ) → coded P key ≡ true → 1 ≤ rowFound base check P key →
+      node T (reverse (map (P .code) key)) ≡ walkAt base check 1 (map (P .code) key) .cell
+  unfolding rowFound leafAt leafAfter node
+  reached-node key k h =
+      let codes = map (P .code) key in
+      let w = walkAt base check 1 codes in
+      sym (walk-same 1 key k ∙ walk-node T codes []) ∙ all-reached (eqb (w .met) (length key)) (w .cell) h
+
   rendered-row : (key : List ℕ) → coded P key ≡ true → rowFound base check P key ≡ lookup P T key
   unfolding rowFound
   rendered-row key k = row-same (leafAt base check P key) ∙ ap (λ (t : ℕ). T t .row) (leaf-same key k) ∙ sym (lookup-row T P key)

@@ -25,6 +25,9 @@ module _ (P : Profile) (key : List ℕ) where
   unfolding labels
   path-labels = reverseAux-append (map (P .code) key) (END ∷ []) []
 
+  pub codes-length : length (reverse (map (P .code) key)) ≡ length key
+  codes-length = length-reverse (map (P .code) key) ∙ length-map key (P .code)
+
   labels-length : length (labels P key) ≡ suc (length key)
   unfolding labels
   labels-length = rw (length-append, length-map) (omega arith)

@@ -12,7 +12,7 @@ use Rattle.tree.proofs.UsedCells.{parent-used, other-parent}
 use Rattle.tree.proofs.Trees.{tree-sized}
 
 module _ (T : Cells) where
-  largest-pos : (k : ℕ) → 1 ≤ largestUsed T k
+  pub largest-pos : (k : ℕ) → 1 ≤ largestUsed T k
   unfolding largestUsed
   largest-pos zero = omega arith
   largest-pos (suc k) = branch (λ (m : ℕ). 1 ≤ m) (used T (suc k)) (λ e. omega arith) (λ e. largest-pos k)

@@ -14,7 +14,7 @@ use Rattle.rules.proofs.Choices.{branch}
 use Rattle.tree.specs.Soundness.{Step, rowAt, Fruit, Bare, Tree}
 use Rattle.tree.specs.Moved.{Fit}
 use Rattle.tree.specs.AfterAnEdit.{Meant}
-use Rattle.tree.proofs.Steps.{last-step}
+use Rattle.tree.proofs.Steps.{step-next, last-step}
 use Rattle.tree.proofs.Trees.{based-pos, row-pos, based-row, held-leaf, step-held, step-far, one-path, fruit-weak, fruit-whole, bare-path}
 use Rattle.tree.proofs.ChildCodes.{childless-baseless, childless-alone, child-next}
 use Rattle.tree.proofs.Relocation.{row-moved, s-moved}
@@ -39,67 +39,88 @@ record Left (P : Profile) (T : Cells) (size x : ℕ) : Type 0 where
   based : 1 ≤ T x .base
   fruit : Fruit T x
 
+-- ---- by whether the last cell has a child
+
+module _ (P : Profile) (T : Cells) where
+  pub prune-stays : (path : List ℕ) → childless T (node T path) (P .greatest) ≡ false → prune P T path ≡ T
+  unfolding prune node
+  prune-stays [] e = rw e
+  prune-stays (c ∷ path) e = rw e
+
+  pub prune-root : childless T 1 (P .greatest) ≡ true → prune P T [] ≡ relocate T 1 1
+  unfolding prune
+  prune-root e = rw e
+
+  pub prune-onward : (c : ℕ) (path : List ℕ) → let t = node T (c ∷ path) in
+      childless T t (P .greatest) ≡ true → prune P T (c ∷ path) ≡ prune P (update T t free) path
+  unfolding prune
+  prune-onward c path e = rw e
+
 -- ---- one cell less: the last of a path, where it has no children
 
-module _ {P : Profile} {T : Cells} {size : ℕ} (w : Tree P T size) (c : ℕ) (path : List ℕ) (pos : 1 ≤ node T (c ∷ path)) where
-  -- The cell, and the table without it.
-  abbrev last : ℕ
-  last = node T (c ∷ path)
-
+module _ {P : Profile} {T : Cells} {size : ℕ} (w : Tree P T size) (path : List ℕ) {c t : ℕ} (p : Step T (node T path) c t)
+    (none : childless T t (P .greatest) ≡ true) where
+  -- The table without it.
   abbrev Less : Cells
-  Less = update T last free
+  Less = update T t free
 
-  step-last : Step T (node T path) c last
-  step-last = last-step T c path refl pos
+  one-less : OneMore Less T t
+  one-less = record {
+    far = step-far w p;
+    same = λ u d. sym (update-off T t free u d);
+    gone = update-at T t free;
+    nowhere = update-off T t free 0 (λ e. omega (arith, step-far w p)) ∙ w .nowhere;
+    alone = childless-alone w t none (omega (arith, step-far w p));
+  }
 
-  module _ (none : childless T last (P .greatest) ≡ true) where
-    one-less : OneMore Less T last
-    one-less = record {
-      far = step-far w step-last;
-      same = λ u d. sym (update-off T last free u d);
-      gone = update-at T last free;
-      nowhere = update-off T last free 0 (λ e. omega arith) ∙ w .nowhere;
-      alone = childless-alone w last none pos;
-    }
+  pub less-tree : Tree P Less size
+  less-tree = tree-less one-less w
 
-    parent-off : node T path ≢ last
-    parent-off e = one-less .alone last (step-last .back ∙ e)
+  parent-off : node T path ≢ t
+  parent-off e = one-less .alone t (p .back ∙ e)
 
-    parent-stays : node Less path ≡ node T path
-    parent-stays = path-less one-less path refl parent-off
+  pub parent-stays : node Less path ≡ node T path
+  parent-stays = path-less one-less path refl parent-off
 
-    parent-left : Fruit T last → Left P Less size (node Less path)
-    parent-left f = record {
-      tree = tree-less one-less w;
-      based = rw (parent-stays, update-off T last free (node T path) parent-off) (step-last .based);
-      fruit = rw (parent-stays, ← step-last .back) (fruit-less one-less f);
-    }
+  pub parent-based : 1 ≤ Less (node T path) .base
+  parent-based = rw (update-off T t free (node T path) parent-off) (p .based)
 
-    inner-alike : T last .row ≡ 0 → {R : Cells} → Alike P Less size R → Alike P T size R
-    inner-alike z k = record { tree = k .tree; rows = λ r. k .rows r ∙ sym (row-inner one-less z r); fruit = k .fruit; bare = k .bare }
+  parent-left : Fruit T t → Left P Less size (node Less path)
+  parent-left f = record { tree = less-tree; based = rw parent-stays parent-based; fruit = rw (parent-stays, ← p .back) (fruit-less one-less f) }
 
-    leaf-dropped : {R : Cells} → Alike P Less size R → Dropped P T size (c ∷ path) R
-    leaf-dropped k = record {
-      meant = record {
-        tree = k .tree;
-        here = k .rows (c ∷ path) ∙ row-gone one-less (c ∷ path) refl;
-        else = λ r d. k .rows r ∙ sym (row-other one-less r (λ e. d (one-path w r (c ∷ path) e refl pos)));
-        fruit = k .fruit;
-      };
-      bare = k .bare;
-    }
+  inner-alike : T t .row ≡ 0 → {R : Cells} → Alike P Less size R → Alike P T size R
+  inner-alike z k = record { tree = k .tree; rows = λ r. k .rows r ∙ sym (row-inner one-less z r); fruit = k .fruit; bare = k .bare }
+
+  leaf-dropped : {R : Cells} → Alike P Less size R → Dropped P T size (c ∷ path) R
+  unfolding node
+  leaf-dropped k = record {
+    meant = record {
+      tree = k .tree;
+      here = k .rows (c ∷ path) ∙ row-gone one-less (c ∷ path) (step-next T p);
+      else = λ r d. k .rows r ∙ sym (row-other one-less r (λ e. d (one-path w r (c ∷ path) e (step-next T p) (omega (arith, step-far w p)))));
+      fruit = k .fruit;
+    };
+    bare = k .bare;
+  }
 
 -- ---- each parent left without a child
+
+-- A root without a child can get base 1: no child has to move.
+module _ {P : Profile} {T : Cells} {size : ℕ} (w : Tree P T size) (none : childless T 1 (P .greatest) ≡ true) where
+  root-alone : (u : ℕ) → T u .parent ≢ 1
+  root-alone = childless-alone w 1 none (omega arith)
+
+  pub root-fit : Fit T 1 (T 1 .base) 1
+  root-fit = record { held = refl; old = w .root-base; new = omega arith; clear = λ c k. absurd (root-alone _ k) }
 
 module _ {P : Profile} where
   root-alike : {T : Cells} {size : ℕ} → Left P T size 1 → childless T 1 (P .greatest) ≡ true → Alike P T size (relocate T 1 1)
   unfolding relocate
   root-alike {T} {size} l e =
       let w = l .tree in
-      let none = childless-alone w 1 e (omega arith) in
-      let m : Fit T 1 (T 1 .base) 1 = record { held = refl; old = l .based; new = omega arith; clear = λ c k. absurd (none _ k) } in
+      let m = root-fit w e in
       record {
-        tree = tree-moved w m size (omega arith) (λ c k. absurd (none _ k));
+        tree = tree-moved w m size (omega arith) (λ c k. absurd (root-alone w e _ k));
         rows = row-moved w m;
         fruit = fruit-moved w m (λ u d h. l .fruit u (λ v. omega (arith, w .root-parent, ap (λ (x : ℕ). T x .parent) v)) h);
         bare = λ _. s-moved w m;
@@ -118,15 +139,15 @@ module _ {P : Profile} where
       let t = node T (c ∷ path) in
       let w = l .tree in
       let pos = based-pos w t (l .based) in
+      let p = last-step T c path refl pos in
       branch (λ (R : Cells). Alike P T size R) (childless T t (P .greatest))
-      (λ e. inner-alike w c path pos e (based-row w t (l .based)) (prune-alike path (parent-left w c path pos e (l .fruit))))
+      (λ e. inner-alike w path p e (based-row w t (l .based)) (prune-alike path (parent-left w path p e (l .fruit))))
       (stays-alike l (bare-path w path c pos))
 
   pub prune-dropped : {T : Cells} {size : ℕ} → Tree P T size → Fruit T 0 → (c : ℕ) (path : List ℕ) → 1 ≤ rowAt T (c ∷ path) →
       Dropped P T size (c ∷ path) (prune P T (c ∷ path))
-  unfolding prune
   prune-dropped {T} {size} w f c path h =
       let t = node T (c ∷ path) in
-      let pos = row-pos w t h in
-      let e = childless-baseless T t (P .greatest) (held-leaf (step-held w (step-last w c path pos)) h .1) in
-      rw e (leaf-dropped w c path pos e (prune-alike path (parent-left w c path pos e (fruit-weak w t f))))
+      let p = last-step T c path refl (row-pos w t h) in
+      let e = childless-baseless T t (P .greatest) (held-leaf (step-held w p) h .1) in
+      rw (prune-onward P T c path e) (leaf-dropped w path p e (prune-alike path (parent-left w path p e (fruit-weak w t f))))

@@ -1,11 +1,11 @@
 -- Compaction step by step: a step moves once, to a smaller base, or changes no cell; steps are taken until n moves are made or one
 -- moves nothing. Assumes nothing.
 use mathlib.Core.Path.{_≡_, refl}
-use mathlib.Core.Logic.{_↔_, ⊎-elim}
+use mathlib.Core.Logic.{_≢_, _↔_, ⊎-elim}
 use Prim.Native.Nat.{ℕ, zero, suc, _≤_, _<_}
 use native.Mathlib.Omega.{arith}
 use lib.Dec.{eqb}
-use borrow.Author.Tests.{eqb-true}
+use borrow.Author.Tests.{eqb-true, eq-eqb, ne-eqb}
 use Rattle.numbers.proofs.Cases.{same?}
 use Rattle.rules.specs.WhatTheIndexDoes.{Profile}
 use Rattle.rules.specs.Table.{Table}
@@ -39,6 +39,16 @@ module _ (P : Profile) where
     step-stays = step-cases P t (λ m. m .count ≡ 0 → m .table .cells ≡ t .cells) (λ _ e. absurd (omega arith)) (λ _ _. refl)
 
   -- ---- many steps
+
+  -- With a step that moves nothing they end; after one that moves they go on from where it leads.
+  pub steps-ended : (n : ℕ) (t : Table) → compactionStep P t .count ≡ 0 → compactionSteps P (suc n) t ≡ compactionStep P t
+  unfolding compactionSteps
+  steps-ended n t z = rw (eq-eqb _ _ z)
+
+  pub steps-onward : (n : ℕ) (t : Table) → compactionStep P t .count ≢ 0 → let rest = compactionSteps P n (compactionStep P t .table) in
+      compactionSteps P (suc n) t ≡ record { table = rest .table; count = suc (rest .count) }
+  unfolding compactionSteps
+  steps-onward n t d = rw (ne-eqb _ _ d)
 
   -- The first step moves nothing.
   stops : (n : ℕ) (t : Table) → compactionStep P t .count ≡ 0 → Taken P (suc n) t (compactionStep P t)

@@ -69,6 +69,9 @@ module _ {P : Profile} {T : Cells} {size : ℕ} (w : Tree P T size) where
   pub based-used : (s : ℕ) → 1 ≤ T s .base → (s ≡ 1) ⊎ (1 ≤ T s .parent)
   based-used s h = ⊎-elim inl (λ d. inr (held-used s d (λ e. omega (arith, ap (λ x. x .base) e)))) (same? s 1)
 
+  pub based-inside : (s : ℕ) → 1 ≤ T s .base → s ≤ size
+  based-inside s h = ⊎-elim (λ e. omega (arith, w .some)) (w .inside s) (based-used s h)
+
   pub row-used : (t : ℕ) → 1 ≤ T t .row → 1 ≤ T t .parent
   row-used t h = held-used t (λ e. omega (arith, w .root-row, ap (λ (x : ℕ). T x .row) e)) (λ e. omega (arith, ap (λ x. x .row) e))
 

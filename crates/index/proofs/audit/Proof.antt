@@ -10,7 +10,7 @@ use Rattle.rules.specs.ASoundTable.{sound}
 use Rattle.rules.specs.Rendering.{chained}
 use Rattle.rules.specs.Calls.{auditCall}
 use Rattle.rules.proofs.Choices.{was-no, was-yes}
-use Rattle.index.specs.Promised.{Answers}
+use Rattle.rules.specs.Promised.{Answers}
 use Rattle.index.proofs.audit.Statement.{statement}
 use Rattle.index.proofs.audit.Tie as tie
 

@@ -13,7 +13,7 @@ use Rattle.rules.specs.Finding.{rowFound}
 use Rattle.rules.specs.Calls.{findCall}
 use Rattle.rules.proofs.Choices.{was-no, was-yes}
 use Rattle.rules.proofs.Lengths.{lengths-within}
-use Rattle.index.specs.Promised.{Answers}
+use Rattle.rules.specs.Promised.{Answers}
 use Rattle.index.proofs.find.Statement.{statement}
 use Rattle.index.proofs.find.Tie as tie
 

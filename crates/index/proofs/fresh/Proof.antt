@@ -14,7 +14,7 @@ use Rattle.rules.specs.ASoundTable.{freshBase, freshCheck}
 use Rattle.rules.specs.Calls.{freshCall}
 use Rattle.rules.proofs.Choices.{was-no, was-yes}
 use Rattle.rules.proofs.Lengths.{lengths-same, lengths-within}
-use Rattle.index.specs.Promised.{Edits}
+use Rattle.rules.specs.Promised.{Edits}
 use Rattle.index.proofs.fresh.Statement.{statement}
 use Rattle.index.proofs.fresh.Tie as tie
 

@@ -1,6 +1,5 @@
 -- `trim` shrinks the size to the largest used cell. Assumes nothing.
-use mathlib.Core.Path.{_≡_, refl}
-use mathlib.Core.Logic.{inl}
+use mathlib.Core.Path.{_≡_}
 use mathlib.Core.List.{List}
 use Prim.Native.Nat.{ℕ}
 use native.Mathlib.Omega.{arith}
@@ -9,8 +8,7 @@ use lib.IntN.{ℤ}
 use Rattle.rules.specs.Table.{Table, used, largestUsed}
 use Rattle.rules.specs.DeletionAndCompaction.{trimmed}
 use Rattle.rules.proofs.Choices.{fails}
-use Rattle.tree.proofs.UsedCells.{is-used}
-use Rattle.tree.proofs.LargestUsed.{largest-low, largest-high}
+use Rattle.tree.proofs.LargestUsed.{largest-pos, largest-low, largest-high}
 use Rattle.chain.specs.Edits.{Shown, Shrinks}
 use Rattle.chain.proofs.Holding.{used-inside}
 use Rattle.chain.proofs.cells.trim.Statement.{statement}
@@ -22,7 +20,7 @@ trims {t = t} s e =
     let w = s .table in
     record {
       shown = s;
-      some = omega (arith, largest-high T (t .size) 1 (is-used T 1 (inl refl)) (w .some));
+      some = omega (arith, largest-pos T (t .size));
       less = omega (arith, largest-low T (t .size) (w .some));
       past = λ u l. fails (used T u) (λ f. omega (arith, largest-high T (t .size) u f (used-inside w u f)));
     }

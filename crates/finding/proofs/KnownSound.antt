@@ -1,0 +1,35 @@
+-- A walk along an identifier in a table known to be sound: the row found is the table's, and the walk to it stops at the node to which
+-- the characters lead. Assumes nothing.
+use mathlib.Core.Path.{_≡_, sym, _∙_}
+use mathlib.Core.Bool.{true}
+use mathlib.Core.List.{List, map, reverse}
+use Prim.Native.Nat.{ℕ, _≤_}
+use lib.ListN.{length}
+use lib.IntN.{ℤ}
+use Rattle.rules.specs.WhatTheIndexDoes.{codeOf, document01, isIdentifier}
+use Rattle.rules.specs.Table.{node, lookup}
+use Rattle.rules.specs.ASoundTable.{sound}
+use Rattle.rules.specs.Rendering.{readCells}
+use Rattle.rules.specs.Finding.{walkAt, leafAfter, rowOf}
+use Rattle.rules.proofs.Lengths.{lengths-within}
+use Rattle.tree.proofs.Identifiers.{identifier-coded}
+use Rattle.tree.proofs.SevenRules.{rules-render}
+use Rattle.tree.proofs.Finding.{reached-node, found-row}
+use Rattle.finding.specs.Reaching.{Reaches}
+use Rattle.finding.proofs.RowFound.{row-reached}
+
+module _ (base check : List ℤ) (whole : sound document01 base check ≡ true) where
+  pub long : length base ≤ 65536
+  long = lengths-within base check (rules-render document01 base check whole .lengths) .1
+
+  -- n is the row after a walk along the identifier.
+  module _ (key : List ℕ) (identifier : isIdentifier document01 key ≡ true) {cell met n : ℕ}
+      (w : Reaches (walkAt base check 1 (map codeOf key)) cell met)
+      (is : n ≡ rowOf base (leafAfter base check (length key) (record { cell = cell; met = met }))) where
+    pub row-held : lookup document01 (readCells base check) key ≡ n
+    row-held = sym (found-row document01 base check whole key (identifier-coded document01 key identifier)) ∙ sym (row-reached base check key w is)
+
+    pub node-held : 1 ≤ n → node (readCells base check) (reverse (map codeOf key)) ≡ cell
+    node-held h =
+        reached-node (rules-render document01 base check whole) key (identifier-coded document01 key identifier) (rw (row-reached base check key w is) at h)
+        ∙ sym (w .cell-is)

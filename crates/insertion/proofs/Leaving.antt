@@ -1,0 +1,34 @@
+-- What a course leaves: its table where each placement fits, otherwise the table it began with. Assumes nothing.
+use mathlib.Core.Path.{_≡_, sym, _∙_}
+use mathlib.Core.Bool.{Bool, true, false}
+use mathlib.Core.List.{List}
+use lib.IntN.{ℤ}
+use Rattle.rules.specs.declared.Answer.the-variants.{Done, NoRoom}
+use Rattle.rules.specs.Table.{Table}
+use Rattle.rules.specs.Insertion.{Course}
+use Rattle.chain.specs.Edits.{Shown}
+use Rattle.insertion.specs.Inserting.{Grown, Extended}
+
+module _ {course : Course} {t : Table} {base check : List ℤ} where
+  -- ---- what a growth said
+
+  module _ {r : Bool} (g : Grown course t r base check) where
+    pub fits-left : r ≡ true → (course .fitted ≡ true) × Shown base check (course .table)
+    fits-left e = let f = sym (g .fitted) ∙ e in (f, rw f at (g .left))
+
+    pub unfit-left : r ≡ false → (course .fitted ≡ false) × Shown base check t
+    unfit-left e = let f = sym (g .fitted) ∙ e in (f, rw f at (g .left))
+
+  -- ---- what is said of a course
+
+  pub left-fits : course .fitted ≡ true → Shown base check (course .table) → Grown course t true base check
+  left-fits f s = record { fitted = sym f; left = rw f s }
+
+  pub left-unfit : course .fitted ≡ false → Shown base check t → Grown course t false base check
+  left-unfit f s = record { fitted = sym f; left = rw f s }
+
+  pub done : course .fitted ≡ true → Shown base check (course .table) → Extended course t (Done (course .count)) base check
+  done f s = record { answer = rw f; left = rw f s }
+
+  pub no-room : course .fitted ≡ false → Shown base check t → Extended course t NoRoom base check
+  no-room f s = record { answer = rw f; left = rw f s }

@@ -1,0 +1,2 @@
+-- What the parts of an insertion are asked, and what they leave.
+pub mod Inserting

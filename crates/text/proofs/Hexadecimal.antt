@@ -1,0 +1,61 @@
+-- Hexadecimal text: its length, and that a number is written digit by digit, a text character by character and a line part by part.
+-- Assumes nothing.
+use mathlib.Core.Path.{_≡_, refl}
+use mathlib.Core.List.{List, [], _∷_, _++_, append-assoc, append-nil}
+use Prim.Native.Nat.{ℕ, zero, suc, _+_, _*_, _-_, _/_, _%_, _<_}
+use native.Mathlib.Numerals.{add-one, sub-one}
+use native.Mathlib.Omega.{arith}
+use lib.ListN.{length, set, getD, drop, length-append}
+use lib.Seq.{sets, drop-cons}
+use Rattle.rules.specs.Listing.{Entry, digit, hex, hexes, LF, lineOf, linesOf}
+use Rattle.text.proofs.Sets.{sets-append, sets-then}
+
+-- ---- digits
+
+length-hex : (k n : ℕ) → length (hex k n) ≡ k
+unfolding hex
+length-hex zero n = refl
+length-hex (suc k) n = rw (length-append, length-hex k (n / 16)) (omega arith)
+
+-- The last digit after the others.
+pub hex-step : (l : List ℕ) (at k n : ℕ) → 0 < k →
+    set (sets l at (hex (k - 1) (n / 16))) (at + (k - 1)) (digit (n % 16)) ≡ sets l at (hex k n)
+unfolding hex
+hex-step l at zero n h = absurd (omega arith)
+hex-step l at (suc k) n h = rw (sub-one, sets-append, length-hex k (n / 16))
+
+-- ---- characters
+
+pub length-hexes : (key : List ℕ) → length (hexes key) ≡ 2 * length key
+unfolding hexes
+length-hexes [] = refl
+length-hexes (b ∷ key) = rw (length-append, length-hex, length-hexes key) (omega arith)
+
+-- The character i, and the rest after it.
+pub hexes-step : (l key : List ℕ) (at i : ℕ) → i < length key →
+    sets (sets l (at + 2 * i) (hex 2 (getD key i 0))) (at + 2 * (i + 1)) (hexes (drop (i + 1) key)) ≡
+    sets l (at + 2 * i) (hexes (drop i key))
+unfolding hexes
+hexes-step l key at i h = rw (add-one, drop-cons key i 0 h) (sets-then l _ _ (hex 2 (getD key i 0)) _ (rw length-hex (omega arith)))
+
+-- ---- lines
+
+pub length-line : (e : Entry) → length (lineOf e) ≡ 11 + 2 * length (e .key)
+unfolding lineOf
+length-line e = simp (length-append, length-hex, length-hexes) (omega arith)
+
+-- The four parts of a line, one after the other.
+pub line-parts : (l : List ℕ) (at : ℕ) (e : Entry) → let end = at + 2 + 2 * length (e .key) in
+    set (sets (sets (sets l at (hex 2 (length (e .key)))) (at + 2) (hexes (e .key))) end (hex 8 (e .row))) (end + 8) LF ≡
+    sets l at (lineOf e)
+unfolding lineOf
+line-parts l at e = simp (sets-append, length-hex, length-hexes)
+
+pub lines-append : (es fs : List Entry) → linesOf (es ++ fs) ≡ linesOf es ++ linesOf fs
+unfolding linesOf
+lines-append [] fs = refl
+lines-append (e ∷ es) fs = rw (lines-append es fs, append-assoc)
+
+pub lines-one : (e : Entry) → linesOf (e ∷ []) ≡ lineOf e
+unfolding linesOf
+lines-one e = append-nil (lineOf e)
