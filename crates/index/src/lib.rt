@@ -7,8 +7,8 @@ ghost use mathlib.Core.Path.{_≡_};
 ghost use Rattle.numbers.specs.Stored.{positive};
 ghost use Rattle.rules.specs.WhatTheIndexDoes.{document01};
 ghost use Rattle.rules.specs.Rendering.{chained};
-ghost use Rattle.rules.specs.Calls.{freshCall, findCall, insertCall, deleteCall, compactCall, auditCall};
-ghost use Rattle.rules.specs.Promised.{Answers, Edits};
+ghost use Rattle.rules.specs.Calls.{freshCall, findCall, insertCall, deleteCall, compactCall, auditCall, listCall};
+ghost use Rattle.rules.specs.Promised.{Answers, Edits, Writes};
 
 // Makes the empty table, whatever the arrays held: SIZE, or done.
 pub fn fresh(base: &mut [i32], check: &mut [i32]) -> Answer
@@ -113,4 +113,17 @@ pub fn audit(base: &[i32], check: &[i32]) -> Answer
         return Answer::Damaged;
     }
     Answer::Done(0)
+}
+
+// Lists the identifiers with their rows, a line each: SIZE, DAMAGED, NO SPACE, or done with the bytes written. Bytes past them stay.
+pub fn list(base: &[i32], check: &[i32], out: &mut [u8]) -> Answer
+    ensures { λ r. ⌜ Writes (listCall chained document01 (now (base .entry)) (now (check .entry)) (now (out .entry))) r (now (out .exit)) ⌝ }
+{
+    if !rules::right_lengths(base, check) {
+        return Answer::Size;
+    }
+    if !audit::is_sound(base, check) {
+        return Answer::Damaged;
+    }
+    listing::list(base, check, out)
 }

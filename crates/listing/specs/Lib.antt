@@ -1,0 +1,2 @@
+-- What the visits of a listing are asked, and what they leave.
+pub mod Visiting
