@@ -1,6 +1,10 @@
-// Runs the public calls on document 01's figures, on three unsound tables, on P3 with each element in turn replaced by extreme
-// values, on identifiers of 1 to 33 letters and on lengths at the edges, and prints every answer. What it has to print is in
-// `stdout`; a test of the second program writes the same text from its own calls.
+// Takes the steps of document 01's figures P1 to P9 through the public calls, and prints every answer, element and byte. Then runs
+// fresh, find and audit on the figures' tables, on three unsound ones, on P3 with each element in turn replaced by extreme values, on
+// identifiers of 1 to 33 letters and on lengths at the edges. What it has to print is in `stdout`; a test of the second program
+// writes the same text from its own calls.
+use rules::Answer;
+use rules::Row;
+use shown::Pair;
 use shown::answer;
 use shown::arrays;
 use shown::damage;
@@ -10,6 +14,8 @@ ghost use Prim.Native.Nat.{_≤_, _<_};
 ghost use lib.ListN.{length};
 
 fn main() {
+    show_steps();
+    show_short();
     show_all();
     show_fresh(9, 9);
     show_fresh(2, 2);
@@ -40,6 +46,98 @@ fn show(n: usize)
         return;
     }
     show_ladder(n - 205);
+}
+
+// ---- the figures' own steps
+
+// P1 to P3; what follows them starts from P3 each time.
+fn show_steps() {
+    let mut base = [-77i32; 9];
+    let mut check = [-77i32; 9];
+    step(b"P1", index::fresh(&mut base, &mut check), &base, &check);
+    step(
+        b"P2",
+        index::insert(&mut base, &mut check, b"ab", Row(7)),
+        &base,
+        &check,
+    );
+    step(
+        b"P3",
+        index::insert(&mut base, &mut check, b"a", Row(9)),
+        &base,
+        &check,
+    );
+    show_compacted(Pair { base, check });
+    show_deleted(Pair { base, check });
+    show_listed(&base, &check);
+}
+
+fn show_compacted(p: Pair) {
+    let mut base = p.base;
+    let mut check = p.check;
+    step(
+        b"P4",
+        index::compact(&mut base, &mut check, 5),
+        &base,
+        &check,
+    );
+}
+
+fn show_deleted(p: Pair) {
+    let mut base = p.base;
+    let mut check = p.check;
+    step(
+        b"P5",
+        index::delete(&mut base, &mut check, b"ab"),
+        &base,
+        &check,
+    );
+    step(
+        b"P6",
+        index::delete(&mut base, &mut check, b"a"),
+        &base,
+        &check,
+    );
+}
+
+// Into a buffer with a byte too few, one that is full then, and one with bytes to spare.
+fn show_listed(base: &[i32], check: &[i32]) {
+    list(base, check, &mut [b'.'; 27]);
+    list(base, check, &mut [b'.'; 28]);
+    list(base, check, &mut [b'.'; 30]);
+}
+
+// P8 and P9: one identifier in a short table.
+fn show_short() {
+    insert_first(b"P8 a", &mut [-77i32; 4], &mut [-77i32; 4], b"a");
+    insert_first(b"P8 a", &mut [-77i32; 3], &mut [-77i32; 3], b"a");
+    insert_first(b"P9 b", &mut [-77i32; 4], &mut [-77i32; 4], b"b");
+    insert_first(b"P9 ab", &mut [-77i32; 4], &mut [-77i32; 4], b"ab");
+    insert_first(b"P9 b", &mut [-77i32; 5], &mut [-77i32; 5], b"b");
+    insert_first(b"P9 ab", &mut [-77i32; 5], &mut [-77i32; 5], b"ab");
+}
+
+fn insert_first(mark: &[u8], base: &mut [i32], check: &mut [i32], key: &[u8]) {
+    index::fresh(base, check);
+    step(mark, index::insert(base, check, key, Row(1)), base, check);
+}
+
+// An answer, and every element after it.
+fn step(mark: &[u8], a: Answer, base: &[i32], check: &[i32]) {
+    text(mark);
+    text(b":");
+    answer(a);
+    text(b"\n");
+    arrays(base, check);
+}
+
+// What list answers, and every byte of the buffer after it.
+fn list(base: &[i32], check: &[i32], out: &mut [u8]) {
+    text(b"P7:");
+    answer(index::list(base, check, out));
+    text(b"\n");
+    text(out);
+    text(b"\n");
 }
 
 // ---- what is printed

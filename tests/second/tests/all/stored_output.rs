@@ -28,6 +28,47 @@ fn answers(pair: &Pair) -> String {
     line + "\n"
 }
 
+/// An answer, and every element after it.
+fn step(mark: &str, answer: Answer, pair: &Pair) -> String {
+    format!("{mark}:{}\n{}\n{}\n", said(answer), elements(&pair.base), elements(&pair.check))
+}
+
+/// The figures' own steps: P1 to P3, then P4, P5 and P6, and P7, each from P3.
+fn figures() -> String {
+    let mut pair = Pair::new(vec![-77; 9], vec![-77; 9]);
+    let answer = fresh(&mut pair.base, &mut pair.check);
+    let mut text = step("P1", answer, &pair);
+    for (mark, key, row) in [("P2", "ab", 7), ("P3", "a", 9)] {
+        let answer = pair.insert(key, row);
+        text += &step(mark, answer, &pair);
+    }
+    let mut compacted = pair.clone();
+    let answer = compacted.compact(5);
+    text += &step("P4", answer, &compacted);
+    let mut deleted = pair.clone();
+    for (mark, key) in [("P5", "ab"), ("P6", "a")] {
+        let answer = deleted.delete(key);
+        text += &step(mark, answer, &deleted);
+    }
+    for room in [27, 28, 30] {
+        let mut out = vec![b'.'; room];
+        let answer = list(&pair.base, &pair.check, &mut out);
+        writeln!(text, "P7:{}\n{}", said(answer), String::from_utf8(out).unwrap()).unwrap();
+    }
+    text
+}
+
+/// P8 and P9: one identifier in a short table.
+fn short() -> String {
+    let tables = [(8, 4, "a"), (8, 3, "a"), (9, 4, "b"), (9, 4, "ab"), (9, 5, "b"), (9, 5, "ab")];
+    let table = |(mark, length, key)| {
+        let mut pair = Pair::fresh(length);
+        let answer = pair.insert(key, 1);
+        step(&format!("P{mark} {key}"), answer, &pair)
+    };
+    tables.map(table).concat()
+}
+
 /// Two cells that are each other's parent, a cell that is its own, a leaf right below the root.
 pub fn unsound() -> [Pair; 3] {
     let ring = Pair::built(9, 6, &[(1, 1, 1), (5, 6, 4), (6, 5, 3)]);
@@ -90,6 +131,7 @@ fn the_proved_program_prints_what_the_second_one_answers() {
     let ladders: String = (1..34).map(ladder).collect();
     let lengths = [(9, 9), (2, 2), (1, 1), (0, 0), (9, 8), (2, 3)];
     let fresh: String = lengths.map(|(n, m)| freshly(n, m)).concat();
-    let text = tables() + &damage() + &ladders + &fresh + &long(65_536) + &long(65_537);
+    let parts = [figures(), short(), tables(), damage(), ladders, fresh];
+    let text = parts.concat() + &long(65_536) + &long(65_537);
     assert!(text == STORED, "{text}");
 }
