@@ -1,7 +1,8 @@
 //! `cost make KIND LENGTH FILE` writes a full table, made by the second program; `cost audit FILE` and `cost find FILE KEY`
 //! make one call of the proved program on it, for `run` to count. A table's file has base, then check, each number as 4 bytes.
 //! `cost insert KIND COUNT LENGTH` makes inserts of the proved program from a fresh table on, and compares the table with the one
-//! that the second program makes.
+//! that the second program makes; `cost delete KIND COUNT LENGTH` makes them and then deletes as many. `cost list FILE`
+//! lists a table, and compares the bytes.
 
 use second::sheets::{line, Random};
 use std::fs;
@@ -26,6 +27,22 @@ extern "C" {
         key_len: usize,
         row: u32,
     ) -> u64;
+    fn cost_delete(
+        base: *mut i32,
+        base_len: usize,
+        check: *mut i32,
+        check_len: usize,
+        key: *const u8,
+        key_len: usize,
+    ) -> u64;
+    fn cost_list(
+        base: *const i32,
+        base_len: usize,
+        check: *const i32,
+        check_len: usize,
+        out: *mut u8,
+        out_len: usize,
+    ) -> u64;
 }
 
 fn main() {
@@ -44,15 +61,18 @@ fn main() {
             let row = unsafe { cost_find(b.as_ptr(), b.len(), c.as_ptr(), c.len(), k, n) };
             println!("row {row}");
         }
-        ["insert", kind, count, length] => {
-            insert(kind, count.parse().unwrap(), length.parse().unwrap())
+        [edit @ ("insert" | "delete"), kind, count, length] => {
+            let count = count.parse().unwrap();
+            let deleted = if edit == "delete" { count } else { 0 };
+            edits(kind, count, deleted, length.parse().unwrap())
         }
+        ["list", file] => list(file),
         _ => exit(2),
     }
 }
 
-/// Inserts so many identifiers, in order or shuffled, into a fresh table, which stays sound.
-fn insert(kind: &str, count: u32, length: usize) {
+/// Inserts so many identifiers, in order or shuffled, into a fresh table, which stays sound; then deletes so many of them.
+fn edits(kind: &str, count: u32, deleted: u32, length: usize) {
     let (mut base, mut check) = (vec![0; length], vec![0; length]);
     second::fresh(&mut base, &mut check);
     let (mut second_base, mut second_check) = (base.clone(), check.clone());
@@ -64,11 +84,30 @@ fn insert(kind: &str, count: u32, length: usize) {
             unsafe { cost_insert(b.as_mut_ptr(), b.len(), c.as_mut_ptr(), c.len(), k, len, row) };
         assert_eq!(done, 0);
     }
-    let lines = order(kind, count).map(|n| line(1, format!("nl-{n:06}").as_bytes(), n + 1));
-    let sheet = lines.collect::<Vec<_>>().join(&b'\n');
-    second::run(&mut second_base, &mut second_check, &sheet, &mut vec![0; 11 * count as usize]);
+    for n in order(kind, count).take(deleted as usize) {
+        let key = format!("nl-{n:06}");
+        let (k, len) = (key.as_ptr(), key.len());
+        let row = unsafe { cost_delete(b.as_mut_ptr(), b.len(), c.as_mut_ptr(), c.len(), k, len) };
+        assert_eq!(row, n as u64 + 1);
+    }
+    let inserts = order(kind, count).map(|n| line(1, format!("nl-{n:06}").as_bytes(), n + 1));
+    let deletions = order(kind, count).map(|n| line(2, format!("nl-{n:06}").as_bytes(), 0));
+    let lines: Vec<_> = inserts.chain(deletions.take(deleted as usize)).collect();
+    let sheet = lines.join(&b'\n');
+    second::run(&mut second_base, &mut second_check, &sheet, &mut vec![0; 11 * lines.len()]);
     assert!(base == second_base && check == second_check);
     println!("cells {}", base[0]);
+}
+
+fn list(file: &str) {
+    let (b, c) = read(file);
+    let mut out = vec![0; 27 * b.len()];
+    let mut second_out = out.clone();
+    let (o, room) = (out.as_mut_ptr(), out.len());
+    let bytes = unsafe { cost_list(b.as_ptr(), b.len(), c.as_ptr(), c.len(), o, room) };
+    second::list(&b, &c, &mut second_out);
+    assert!(out == second_out);
+    println!("bytes {bytes}");
 }
 
 /// The numbers below count, ascending or in a fixed other order.
