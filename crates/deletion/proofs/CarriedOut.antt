@@ -2,7 +2,7 @@
 use mathlib.Core.Path.{_≡_, refl}
 use mathlib.Core.Logic.{_≢_}
 use mathlib.Core.Bool.{true}
-use mathlib.Core.List.{List, map}
+use mathlib.Core.List.{List}
 use Prim.Native.Nat.{ℕ, _≤_}
 use native.Mathlib.Omega.{arith}
 use lib.ListN.{length}
@@ -10,11 +10,10 @@ use lib.IntN.{ℤ}
 use borrow.Author.Tests.{lt-ltb, le-ltb}
 use Rattle.rules.specs.declared.Answer.the-variants.{Done, Absent}
 use Rattle.rules.specs.Answers.{found}
-use Rattle.rules.specs.WhatTheIndexDoes.{codeOf, document01}
+use Rattle.rules.specs.WhatTheIndexDoes.{document01}
 use Rattle.rules.specs.Table.{Table, lookup}
 use Rattle.rules.specs.ASoundTable.{sound}
 use Rattle.rules.specs.Rendering.{chained, readTable}
-use Rattle.rules.specs.Finding.{walkAt, leafAfter, rowOf}
 use Rattle.rules.specs.DeletionAndCompaction.{deleted, compacted}
 use Rattle.rules.specs.Commands.{delete, compact, carriedOut}
 use Rattle.rules.specs.Calls.{soundEdit}
@@ -22,7 +21,7 @@ use Rattle.rules.specs.Promised.{Edits}
 use Rattle.tree.proofs.SevenRules.{rules-render, sound-shows}
 use Rattle.chain.specs.Edits.{Shown}
 use Rattle.chain.proofs.Outcomes.{stored-done, stored-refused}
-use Rattle.finding.specs.Reaching.{Reaches}
+use Rattle.finding.specs.Reaching.{LooksUp}
 use Rattle.finding.proofs.KnownSound.{row-held, node-held}
 use Rattle.deletion.specs.Deleting.{Deletes, Removes, Steps, Moved}
 
@@ -31,16 +30,13 @@ sound-steps {base} {check} whole = let r = rules-render document01 base check wh
 
 -- ---- a deletion
 
--- n is the row after a walk along the identifier.
-module _ {base check : List ℤ} {key : List ℕ} (a : Deletes base check key) {cell met n : ℕ}
-    (w : Reaches (walkAt base check 1 (map codeOf key)) cell met)
-    (is : n ≡ rowOf base (leafAfter base check (length key) (record { cell = cell; met = met }))) where
+module _ {base check : List ℤ} {key : List ℕ} (a : Deletes base check key) {cell met n : ℕ} (w : LooksUp base check key cell met n) where
   abbrev t : Table
   t = readTable base check
 
   held-is : lookup document01 (t .cells) key ≡ n
   unfolding readTable
-  held-is = row-held base check (a .whole) key (a .identifier) w is
+  held-is = row-held base check (a .whole) key (a .identifier) w
 
   pub is-absent : n ≡ 0 → Edits (soundEdit chained document01 base check (delete key)) Absent base check
   unfolding soundEdit carriedOut
@@ -54,7 +50,7 @@ module _ {base check : List ℤ} {key : List ℕ} (a : Deletes base check key) {
     unfolding readTable
     removes =
         let s = sound-steps (a .whole) in
-        record { shown = s .shown; whole = s .whole; live = rw held-is some; node-is = node-held base check (a .whole) key (a .identifier) w is some }
+        record { shown = s .shown; whole = s .whole; live = rw held-is some; node-is = node-held base check (a .whole) key (a .identifier) w some }
 
     pub is-removed : {base′ check′ : List ℤ} → length base′ ≡ length base → Shown base′ check′ (deleted document01 t key) →
         Edits (soundEdit chained document01 base check (delete key)) (found n) base′ check′

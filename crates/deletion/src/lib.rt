@@ -26,12 +26,12 @@ pub fn delete(base: &mut [i32], check: &mut [i32], key: &[u8]) -> Answer
     requires { ⌜ Deletes (now base) (now check) (now key) ⌝ }
     ensures { λ r. ⌜ Edits (soundEdit chained document01 (now (base .entry)) (now (check .entry)) (delete (now (key .entry)))) r (now (base .exit)) (now (check .exit)) ⌝ }
 {
-    let reached = finding::walk(base, check, key);
-    let row = finding::held(base, check, key.len(), reached);
+    let looked = finding::look_up(base, check, key);
+    let row = looked.row;
     if row.0 == 0 {
         return Answer::Absent;
     }
-    remove(base, check, reached.cell, key);
+    remove(base, check, looked.cell, key);
     Answer::Found(row)
 }
 

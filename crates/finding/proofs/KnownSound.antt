@@ -6,30 +6,26 @@ use mathlib.Core.List.{List, map, reverse}
 use Prim.Native.Nat.{ℕ, _≤_}
 use lib.ListN.{length}
 use lib.IntN.{ℤ}
-use Rattle.rules.specs.WhatTheIndexDoes.{codeOf, document01, isIdentifier}
+use Rattle.rules.specs.WhatTheIndexDoes.{codeOf, document01, coded, isIdentifier}
 use Rattle.rules.specs.Table.{node, lookup}
 use Rattle.rules.specs.ASoundTable.{sound}
 use Rattle.rules.specs.Rendering.{readCells}
-use Rattle.rules.specs.Finding.{walkAt, leafAfter, rowOf}
 use Rattle.rules.proofs.Lengths.{lengths-within}
 use Rattle.tree.proofs.Identifiers.{identifier-coded}
 use Rattle.tree.proofs.SevenRules.{rules-render}
 use Rattle.tree.proofs.Finding.{reached-node, found-row}
-use Rattle.finding.specs.Reaching.{Reaches}
-use Rattle.finding.proofs.RowFound.{row-reached}
+use Rattle.finding.specs.Reaching.{LooksUp}
 
 module _ (base check : List ℤ) (whole : sound document01 base check ≡ true) where
   pub long : length base ≤ 65536
   long = lengths-within base check (rules-render document01 base check whole .lengths) .1
 
-  -- n is the row after a walk along the identifier.
-  module _ (key : List ℕ) (identifier : isIdentifier document01 key ≡ true) {cell met n : ℕ}
-      (w : Reaches (walkAt base check 1 (map codeOf key)) cell met)
-      (is : n ≡ rowOf base (leafAfter base check (length key) (record { cell = cell; met = met }))) where
+  module _ (key : List ℕ) (identifier : isIdentifier document01 key ≡ true) {cell met n : ℕ} (l : LooksUp base check key cell met n) where
+    coded-key : coded document01 key ≡ true
+    coded-key = identifier-coded document01 key identifier
+
     pub row-held : lookup document01 (readCells base check) key ≡ n
-    row-held = sym (found-row document01 base check whole key (identifier-coded document01 key identifier)) ∙ sym (row-reached base check key w is)
+    row-held = sym (l .row-is ∙ found-row document01 base check whole key coded-key)
 
     pub node-held : 1 ≤ n → node (readCells base check) (reverse (map codeOf key)) ≡ cell
-    node-held h =
-        reached-node (rules-render document01 base check whole) key (identifier-coded document01 key identifier) (rw (row-reached base check key w is) at h)
-        ∙ sym (w .cell-is)
+    node-held h = reached-node (rules-render document01 base check whole) key coded-key (rw (l .row-is) at h) ∙ sym (l .reaches .cell-is)

@@ -12,7 +12,7 @@ ghost use lib.ListN.{length, getD};
 ghost use Rattle.rules.specs.WhatTheIndexDoes.{GREATEST, codeOf, document01};
 ghost use Rattle.rules.specs.Answers.{foundOrAbsent};
 ghost use Rattle.rules.specs.Finding.{nextAt, walkAt, leafAfter, rowOf, rowFound};
-ghost use Rattle.finding.specs.Reaching.{Reaches};
+ghost use Rattle.finding.specs.Reaching.{Reaches, LooksUp};
 
 // Where a walk stopped, and how many characters were found.
 pub struct Reached {
@@ -20,13 +20,19 @@ pub struct Reached {
     pub met: usize,
 }
 
+// The same, and the row found; row 0 is none.
+pub struct Looked {
+    pub cell: Cell,
+    pub met: usize,
+    pub row: Row,
+}
+
 // The row of an identifier, or ABSENT.
 pub fn row(base: &[i32], check: &[i32], key: &[u8]) -> Answer
     requires { ⌜ length (now base) ≤ 65536 ⌝ }
     ensures { λ r. ⌜ r ≡ foundOrAbsent (rowFound (now (base .entry)) (now (check .entry)) document01 (now (key .entry))) ⌝ }
 {
-    let reached = walk(base, check, key);
-    let row = held(base, check, key.len(), reached);
+    let row = look_up(base, check, key).row;
     if row.0 == 0 {
         Answer::Absent
     } else {
@@ -34,8 +40,20 @@ pub fn row(base: &[i32], check: &[i32], key: &[u8]) -> Answer
     }
 }
 
+// Looks an identifier up: the walk, and the row after its end mark.
+pub fn look_up(base: &[i32], check: &[i32], key: &[u8]) -> Looked
+    requires { ⌜ length (now base) ≤ 65536 ⌝ }
+    ensures { λ r. ⌜ LooksUp (now (base .entry)) (now (check .entry)) (now (key .entry)) (r .cell .0) (r .met) (r .row .0) ⌝ }
+{
+    let reached = walk(base, check, key);
+    let row = held(base, check, key.len(), reached);
+    let cell = reached.cell;
+    let met = reached.met;
+    Looked { cell, met, row }
+}
+
 // The walk from the root along an identifier's characters.
-pub fn walk(base: &[i32], check: &[i32], key: &[u8]) -> Reached
+fn walk(base: &[i32], check: &[i32], key: &[u8]) -> Reached
     requires { ⌜ length (now base) ≤ 65536 ⌝ }
     ensures { λ r. ⌜ Reaches (walkAt (now (base .entry)) (now (check .entry)) 1 (map codeOf (now (key .entry)))) (r .cell .0) (r .met) ⌝ }
 {
@@ -55,7 +73,7 @@ pub fn walk(base: &[i32], check: &[i32], key: &[u8]) -> Reached
 }
 
 // The row after the end mark, where a walk along so many characters found them all; otherwise row 0, which is none.
-pub fn held(base: &[i32], check: &[i32], characters: usize, reached: Reached) -> Row
+fn held(base: &[i32], check: &[i32], characters: usize, reached: Reached) -> Row
     requires { ⌜ length (now base) ≤ 65536 ⌝ }
     ensures { λ r. ⌜ r .0 ≡ rowOf (now (base .entry)) (leafAfter (now (base .entry)) (now (check .entry)) characters (record { cell = reached .cell .0; met = reached .met })) ⌝ }
 {

@@ -2,7 +2,7 @@
 -- stopped, and what is left there is what the command leaves. Assumes nothing.
 use mathlib.Core.Path.{_≡_, refl, sym, _∙_}
 use mathlib.Core.Bool.{Bool, true, false, cond}
-use mathlib.Core.List.{List, map}
+use mathlib.Core.List.{List}
 use Prim.Native.Nat.{ℕ, _-_, _≤_}
 use native.Mathlib.Omega.{arith}
 use lib.ListN.{length, take, drop, length-drop}
@@ -12,10 +12,10 @@ use borrow.Author.Tests.{lt-ltb}
 use Rattle.rules.specs.declared.Answer.{Answer}
 use Rattle.rules.specs.declared.Answer.the-variants.{Done, NoRoom}
 use Rattle.rules.specs.Answers.{present}
-use Rattle.rules.specs.WhatTheIndexDoes.{codeOf, document01, coded, lastCell}
+use Rattle.rules.specs.WhatTheIndexDoes.{document01, coded, lastCell}
 use Rattle.rules.specs.Table.{Table, lookup}
 use Rattle.rules.specs.Rendering.{chained, readCells, readTable}
-use Rattle.rules.specs.Finding.{walkAt, leafAfter, leafAt, rowOf, rowFound}
+use Rattle.rules.specs.Finding.{leafAt, rowFound}
 use Rattle.rules.specs.Insertion.{Course, inserted}
 use Rattle.rules.specs.Commands.{Outcome, insert, carriedOut}
 use Rattle.rules.specs.Calls.{stored, soundEdit}
@@ -29,8 +29,8 @@ use Rattle.tree.proofs.SevenRules.{rules-render, sound-shows}
 use Rattle.tree.proofs.Stopping.{Stops, leaf-none, walk-begins}
 use Rattle.chain.specs.Edits.{Shown}
 use Rattle.chain.proofs.Outcomes.{shown-same, stored-done, stored-refused}
-use Rattle.finding.specs.Reaching.{Reaches}
-use Rattle.finding.proofs.RowFound.{reached-is, row-reached}
+use Rattle.finding.specs.Reaching.{LooksUp}
+use Rattle.finding.proofs.RowFound.{reached-is}
 use Rattle.finding.proofs.KnownSound.{row-held}
 use Rattle.insertion.specs.Inserting.{extension, Inserts, Extends, Extended}
 
@@ -54,11 +54,9 @@ module _ {base check : List ℤ} {key : List ℕ} {row : ℕ} (i : Inserts base 
   abbrev edit : Answer → List ℤ → List ℤ → Type 0
   edit = Edits (soundEdit chained document01 base check (insert key row))
 
-  -- n is the row after a walk along the identifier.
-  module _ {cell met n : ℕ} (w : Reaches (walkAt base check 1 (map codeOf key)) cell met)
-      (is : n ≡ rowOf base (leafAfter base check (length key) (record { cell = cell; met = met }))) where
+  module _ {cell met n : ℕ} (w : LooksUp base check key cell met n) where
     held-is : lookup document01 (readCells base check) key ≡ n
-    held-is = row-held base check (i .whole) key (i .identifier) w is
+    held-is = row-held base check (i .whole) key (i .identifier) w
 
     pub is-present : 1 ≤ n → edit (present n) base check
     unfolding soundEdit carriedOut readTable
@@ -69,8 +67,8 @@ module _ {base check : List ℤ} {key : List ℕ} {row : ℕ} (i : Inserts base 
     module _ (z : n ≡ 0) where
       stops : Stops renders (lastCell base) row 1 key (record { cell = cell; met = met })
       unfolding readTable rowFound leafAt
-      stops = rw (reached-is w) (walk-begins renders document01-round-trip (lastCell base) row 1 key coded-key (renders .table .tree .root-base)
-          (leaf-none renders (length key) _ (sym (row-reached base check key w is) ∙ z)))
+      stops = rw (reached-is (w .reaches)) (walk-begins renders document01-round-trip (lastCell base) row 1 key coded-key (renders .table .tree .root-base)
+          (leaf-none renders (length key) _ (sym (w .row-is) ∙ z)))
 
       abbrev rest : List ℕ
       rest = take (length key - met) (drop met key)

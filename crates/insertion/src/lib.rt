@@ -20,13 +20,13 @@ pub fn insert(base: &mut [i32], check: &mut [i32], key: &[u8], row: Row) -> Answ
     requires { ⌜ Inserts (now base) (now check) (now key) (row .0) ⌝ }
     ensures { λ r. ⌜ Edits (soundEdit chained document01 (now (base .entry)) (now (check .entry)) (insert (now (key .entry)) (row .0))) r (now (base .exit)) (now (check .exit)) ⌝ }
 {
-    let reached = finding::walk(base, check, key);
-    let held = finding::held(base, check, key.len(), reached);
+    let looked = finding::look_up(base, check, key);
+    let held = looked.row;
     if held.0 != 0 {
         return Answer::Present(held);
     }
-    let met = reached.met;
-    extend(base, check, reached.cell, &key[met..], row)
+    let met = looked.met;
+    extend(base, check, looked.cell, &key[met..], row)
 }
 
 // At the node s, where the first label of the rest leads nowhere. If that label's cell is used or past the last cell, the node

@@ -1,4 +1,4 @@
--- `insert` walks along the identifier; it answers PRESENT, or extends the table at the node where the walk stopped. Assumes nothing.
+-- `insert` looks the identifier up; it answers PRESENT, or extends the table at the node where the walk stopped. Assumes nothing.
 use Prim.Native.Nat.{_≤_}
 use native.Mathlib.Omega.{arith}
 use lib.ListN.{length}
@@ -8,18 +8,11 @@ use Rattle.insertion.proofs.Beginning.{is-present, met-within, extends,
 use Rattle.insertion.proofs.insert.Statement.{statement}
 use Rattle.insertion.proofs.insert.Tie as tie
 
-walk-requires : tie.Need-walk-requires
-walk-requires c κs = long _ _ (c .before .before .before .pre .whole)
+look-up-requires : tie.Need-look-up-requires
+look-up-requires c κs = long _ _ (c .before .before .before .pre .whole)
 
-held-requires : tie.Need-held-requires
-held-requires c κs = long _ _ (c .before .before .before .before .before .before .pre .whole)
-
--- The entry and the walk, seen from the row held.
-abbrev entry : tie.After-held → tie.Start
-entry h = h .before .before .before .before .before .before .before
-
-abbrev walked : tie.After-held → tie.After-walk
-walked h = h .before .before .before
+abbrev entry : tie.After-look-up → tie.Start
+entry l = l .before .before .before .before
 
 same-length : tie.Need-same-length
 same-length c = search needs
@@ -28,11 +21,11 @@ same-length-2 : tie.Need-same-length-2
 same-length-2 c = search needs
 
 returns : tie.Need-returns
-returns c = let h = c .before .before in is-present (entry h .pre) (walked h .walk .ensures) (h .held .ensures) (omega arith)
+returns c = let l = c .before .before .before in is-present (entry l .pre) (l .look-up .ensures) (omega arith)
 
 -- Not more characters are found than there are.
-found-within : (c : tie.Else1) → walked (c .before .before) .walk .result .met ≤ length (entry (c .before .before) .args .key .now)
-found-within c = let h = c .before .before in met-within (entry h .pre) (walked h .walk .ensures) (h .held .ensures) (c .if1 .left)
+found-within : (c : tie.Else1) → c .before .before .before .look-up .result .met ≤ length (entry (c .before .before .before) .args .key .now)
+found-within c = let l = c .before .before .before in met-within (entry l .pre) (l .look-up .ensures) (c .if1 .left)
 
 sub-extend : tie.Need-sub-extend
 sub-extend c = found-within (c .before .before)
@@ -46,8 +39,8 @@ part-extend-end c = search needs
 extend-requires : tie.Need-extend-requires
 extend-requires c κs =
     let e = c .before .before .before in
-    let h = e .before .before in
-    (_, extends (entry h .pre) (walked h .walk .ensures) (h .held .ensures) (e .if1 .left))
+    let l = e .before .before .before in
+    (_, extends (entry l .pre) (l .look-up .ensures) (e .if1 .left))
 
 same-length-3 : tie.Need-same-length-3
 same-length-3 c = search needs
@@ -58,18 +51,17 @@ same-length-4 c = search needs
 returns-2 : tie.Need-returns-2
 returns-2 c =
     let e = c .before .before .before .before .before .before in
-    let h = e .before .before in
-    let i = entry h .pre in
-    let w = walked h .walk .ensures in
+    let l = e .before .before .before in
+    let i = entry l .pre in
+    let w = l .look-up .ensures in
     let x = c .before .before .extend in
-    is-carried-out i w (h .held .ensures) (e .if1 .left) (x .kept .0) (x .ensures _ (extends i w (h .held .ensures) (e .if1 .left)))
+    is-carried-out i w (e .if1 .left) (x .kept .0) (x .ensures _ (extends i w (e .if1 .left)))
 
 pub insert-spec : {M : Type 1} → statement M
 insert-spec =
     tie.close
     (tie.spec
-    walk-requires
-    held-requires
+    look-up-requires
     same-length
     same-length-2
     returns

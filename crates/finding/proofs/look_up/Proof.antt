@@ -1,0 +1,20 @@
+-- `look_up` walks along the identifier, and gives the row after the end mark too. Assumes nothing.
+use borrow.Author.Needs.{needs}
+use Rattle.finding.proofs.RowFound.{row-reached}
+use Rattle.finding.proofs.look_up.Statement.{statement}
+use Rattle.finding.proofs.look_up.Tie as tie
+
+walk-requires : tie.Need-walk-requires
+walk-requires c κs = search needs
+
+held-requires : tie.Need-held-requires
+held-requires c κs = search needs
+
+returns : tie.Need-returns
+returns c =
+    let h = c .before in
+    let w = h .before .walk .ensures in
+    record { reaches = record { cell-is = w .cell-is; met-is = w .met-is }; row-is = row-reached _ _ _ w (h .held .ensures) }
+
+pub look-up-spec : {M : Type 1} → statement M
+look-up-spec = tie.close (tie.spec walk-requires held-requires returns)
