@@ -4,9 +4,11 @@
 use rules::Row;
 use shown::answer;
 use shown::arrays;
-use shown::number;
+use shown::begin;
+use shown::given;
+use shown::put;
 use shown::text;
-ghost use Prim.Native.Nat.{_≤_, _<_};
+ghost use Prim.Native.Nat.{_<_};
 ghost use lib.ListN.{length};
 
 fn main() {
@@ -28,46 +30,9 @@ fn main() {
 
 // ---- what is done and printed
 
-// One insertion: what insert answers, and then find and audit.
-fn put(base: &mut [i32], check: &mut [i32], key: &[u8], row: u32) {
-    text(b"insert '");
-    text(key);
-    text(b"'");
-    number(row as usize);
-    text(b":");
-    answer(index::insert(base, check, key, Row(row)));
-    text(b", find");
-    answer(index::find(base, check, key));
-    text(b", audit");
-    answer(index::audit(base, check));
-    text(b"\n");
-}
-
 // An insertion, and both arrays after it.
 fn step(base: &mut [i32], check: &mut [i32], key: &[u8], row: u32) {
     put(base, check, key, row);
-    arrays(base, check);
-}
-
-fn make(base: &mut [i32], check: &mut [i32]) {
-    text(b"fresh");
-    number(base.len());
-    text(b":");
-    answer(index::fresh(base, check));
-    text(b"\n");
-}
-
-// A fresh table, and both arrays.
-fn begin(base: &mut [i32], check: &mut [i32]) {
-    make(base, check);
-    arrays(base, check);
-}
-
-// A table that stands already.
-fn given(base: &[i32], check: &[i32]) {
-    text(b"given: audit");
-    answer(index::audit(base, check));
-    text(b"\n");
     arrays(base, check);
 }
 
@@ -263,11 +228,7 @@ fn insert_damaged(n: usize)
     shown::damage(n);
     text(b":");
     answer(index::insert(&mut base, &mut check, b"b", Row(5)));
-    text(b";");
-    shown::elements(&base);
-    text(b";");
-    shown::elements(&check);
-    text(b"\n");
+    shown::in_line(&base, &check);
 }
 
 // ---- histories
@@ -296,12 +257,7 @@ fn show_histories() {
 fn show_history(base: &mut [i32], check: &mut [i32], letters: &[u8], seed: u64)
     requires { ⌜ 0 < length (now letters) ⌝ }
 {
-    text(b"history");
-    number(base.len());
-    text(b" ");
-    text(letters);
-    text(b"\n");
-    index::fresh(base, check);
+    shown::history(base, check, letters);
     put_sixty(base, check, letters, seed);
     arrays(base, check);
 }
@@ -320,35 +276,10 @@ fn put_drawn(base: &mut [i32], check: &mut [i32], letters: &[u8], row: u32, stat
     requires { ⌜ 0 < length (now letters) ⌝ }
 {
     let mut key = [0u8; 6];
-    let drawn = draw(&mut key, letters, state);
-    let n = 1 + (drawn / 65536) as usize % 6;
+    let drawn = shown::draw(&mut key, letters, state);
+    let n = 1 + shown::below(drawn, 6);
     put(base, check, &key[..n], row);
     drawn
-}
-
-fn draw(key: &mut [u8], letters: &[u8], state: u64) -> u64
-    requires { ⌜ 0 < length (now letters) ⌝ }
-{
-    let mut state = state;
-    let mut i = 0;
-    while i < key.len() {
-        state = next(state);
-        key[i] = letter(letters, state);
-        i += 1;
-    }
-    next(state)
-}
-
-// One of the letters, by the state's upper bits.
-fn letter(letters: &[u8], state: u64) -> u8
-    requires { ⌜ 0 < length (now letters) ⌝ }
-{
-    letters[(state / 65536) as usize % letters.len()]
-}
-
-// A linear congruential generator: its next state.
-fn next(state: u64) -> u64 {
-    (state % 2147483648 * 1103515245 + 12345) % 2147483648
 }
 
 // ---- the greatest length, and one more
@@ -366,20 +297,8 @@ fn show_too_long() {
     show_long(&mut base, &mut check);
 }
 
-// Of such arrays the first elements are shown.
-fn show_long(base: &mut [i32], check: &mut [i32])
-    requires { ⌜ (12 ≤ length (now base)) × (12 ≤ length (now check)) ⌝ }
-{
-    make(base, check);
-    dozen(base, check);
-    put(base, check, b"a-9", 5);
-    dozen(base, check);
-    put(base, check, b"a", 1000000);
-    dozen(base, check);
-}
-
-fn dozen(base: &[i32], check: &[i32])
-    requires { ⌜ (12 ≤ length (now base)) × (12 ≤ length (now check)) ⌝ }
-{
-    arrays(&base[..12], &check[..12]);
+fn show_long(base: &mut [i32], check: &mut [i32]) {
+    begin(base, check);
+    step(base, check, b"a-9", 5);
+    step(base, check, b"a", 1000000);
 }

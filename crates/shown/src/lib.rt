@@ -1,7 +1,10 @@
-// What the programs that show the public calls have in common: how numbers, elements and answers are printed, and the arrays on
-// which the calls are tried. Those are document 01's figures, three unsound tables, and P3 with one element replaced.
+// What the programs that show the public calls have in common: how numbers, elements and answers are printed, fresh tables and
+// insertions with what is printed of them, the arrays on which the calls are tried, and a generator of identifiers. The arrays are
+// document 01's figures, three unsound tables, and P3 with one element replaced.
 use rules::Answer;
-ghost use Prim.Native.Nat.{_<_};
+use rules::Row;
+ghost use Prim.Native.Nat.{_≤_, _<_};
+ghost use lib.ListN.{length};
 
 // ---- what is printed
 
@@ -23,12 +26,23 @@ pub fn signed(x: i32) {
     }
 }
 
-pub fn elements(s: &[i32]) {
+// All elements of an array, or of a long one the first dozen.
+fn elements(s: &[i32]) {
+    let n = listed(s.len());
     let mut i = 0;
-    while i < s.len() {
+    while i < n {
         signed(s[i]);
         i += 1;
     }
+}
+
+fn listed(n: usize) -> usize
+    ensures { λ r. ⌜ r ≤ n ⌝ }
+{
+    if 300 < n {
+        return 12;
+    }
+    n
 }
 
 // The elements of both arrays, a line each.
@@ -39,10 +53,74 @@ pub fn arrays(base: &[i32], check: &[i32]) {
     text(b"\n");
 }
 
+// The elements of both arrays as the end of a line.
+pub fn in_line(base: &[i32], check: &[i32]) {
+    text(b";");
+    elements(base);
+    text(b";");
+    elements(check);
+    text(b"\n");
+}
+
 // An answer's number and value.
 pub fn answer(a: Answer) {
     number(a.number() as usize);
     number(a.value());
+}
+
+// ---- what is done and printed
+
+// What audit answers, as the end of a line.
+pub fn audited(base: &[i32], check: &[i32]) {
+    text(b" audit");
+    answer(index::audit(base, check));
+    text(b"\n");
+}
+
+// What find and audit answer after a command with a key, as the end of its line.
+pub fn after(base: &[i32], check: &[i32], key: &[u8]) {
+    text(b", find");
+    answer(index::find(base, check, key));
+    text(b",");
+    audited(base, check);
+}
+
+// One insertion: what insert answers, and then find and audit.
+pub fn put(base: &mut [i32], check: &mut [i32], key: &[u8], row: u32) {
+    text(b"insert '");
+    text(key);
+    text(b"'");
+    number(row as usize);
+    text(b":");
+    answer(index::insert(base, check, key, Row(row)));
+    after(base, check, key);
+}
+
+// A fresh table, and both arrays.
+pub fn begin(base: &mut [i32], check: &mut [i32]) {
+    text(b"fresh");
+    number(base.len());
+    text(b":");
+    answer(index::fresh(base, check));
+    text(b"\n");
+    arrays(base, check);
+}
+
+// A table that stands already.
+pub fn given(base: &[i32], check: &[i32]) {
+    text(b"given:");
+    audited(base, check);
+    arrays(base, check);
+}
+
+// A fresh table for a generated history, under its title.
+pub fn history(base: &mut [i32], check: &mut [i32], letters: &[u8]) {
+    text(b"history");
+    number(base.len());
+    text(b" ");
+    text(letters);
+    text(b"\n");
+    index::fresh(base, check);
 }
 
 // ---- the arrays
@@ -131,4 +209,40 @@ fn extreme(k: usize) -> i32 {
         9 => 9,
         _ => 2147483647,
     }
+}
+
+// ---- generated identifiers
+
+// Draws letters into all of the key, and gives the generator's state.
+pub fn draw(key: &mut [u8], letters: &[u8], state: u64) -> u64
+    requires { ⌜ 0 < length (now letters) ⌝ }
+{
+    let mut state = state;
+    let mut i = 0;
+    while i < key.len() {
+        state = next(state);
+        key[i] = letter(letters, state);
+        i += 1;
+    }
+    next(state)
+}
+
+// One of the letters, by the state.
+fn letter(letters: &[u8], state: u64) -> u8
+    requires { ⌜ 0 < length (now letters) ⌝ }
+{
+    letters[below(state, letters.len())]
+}
+
+// A number below a bound, by the state's upper bits.
+pub fn below(state: u64, bound: usize) -> usize
+    requires { ⌜ 0 < bound ⌝ }
+    ensures { λ r. ⌜ r < bound ⌝ }
+{
+    (state / 65536) as usize % bound
+}
+
+// A linear congruential generator: its next state.
+pub fn next(state: u64) -> u64 {
+    (state % 2147483648 * 1103515245 + 12345) % 2147483648
 }

@@ -11,6 +11,9 @@ slice-aggregate-draw c = search needs
 draw-requires : tie.Need-draw-requires
 draw-requires c κs = search needs
 
+below-requires : tie.Need-below-requires
+below-requires c κs = search needs
+
 add-n : tie.Need-add-n
 add-n c = search needs
 
@@ -38,6 +41,7 @@ put-drawn-spec =
     (tie.spec
     slice-aggregate-draw
     draw-requires
+    below-requires
     add-n
     array-share-prefix-key
     slice-aggregate-put

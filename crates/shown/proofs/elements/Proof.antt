@@ -6,10 +6,13 @@ use Rattle.shown.proofs.elements.Statement.{statement}
 use Rattle.shown.proofs.elements.Tie as tie
 
 abbrev Inv-loop : tie.InvT-loop
-Inv-loop s i₀ i = i ≤ length s
+Inv-loop s n i₀ i = (i ≤ n) × (n ≤ length s)
 
 abbrev μ-loop : tie.MeasureT-loop
-μ-loop s i₀ i = length s - i
+μ-loop s n i₀ i = n - i
+
+listed-requires : tie.Need-listed-requires Inv-loop μ-loop
+listed-requires c κs = search needs
 
 loop-holds : tie.Need-loop-holds Inv-loop μ-loop
 loop-holds c = search needs
@@ -41,6 +44,7 @@ elements-spec =
     (tie.spec
     Inv-loop
     μ-loop
+    listed-requires
     loop-holds
     mul-signed
     shared-slice-copy-out-signed

@@ -3,61 +3,41 @@
 //! damaged arrays, and generated histories.
 
 use crate::common::Pair;
-use crate::figures::{p1, p4};
-use crate::stored_output::{damaged, elements, said, unsound};
+use crate::figures::p4;
+use crate::shown::{self, arrays, damaged, draw, in_line, unsound, wrong_lengths, Call};
 use second::*;
-use std::fmt::Write;
 
 const STORED: &str = include_str!("../../../../crates/insertions/stdout");
 
 /// Identifiers to insert, with their rows.
 type Steps<'a> = &'a [(&'a str, u32)];
 
-/// The line of one insertion: what insert answers, and then find and audit.
-fn inserted(pair: &mut Pair, key: &str, row: u32) -> String {
-    let answer = pair.insert(key, row);
-    let (found, audited) = (said(pair.find(key)), said(pair.audit()));
-    format!("insert '{key}' {row}:{}, find{found}, audit{audited}\n", said(answer))
-}
-
-/// Both arrays, as far as this many elements.
-fn arrays(pair: &Pair, most: usize) -> String {
-    let part = |array: &[i32]| elements(&array[..most.min(array.len())]);
-    format!("{}\n{}\n", part(&pair.base), part(&pair.check))
-}
-
-/// All elements of both arrays after each insertion, or as many as this.
-fn steps(pair: &mut Pair, steps: Steps, most: usize) -> String {
-    let step = |&(key, row): &(&str, u32)| inserted(pair, key, row) + &arrays(pair, most);
-    steps.iter().map(step).collect()
+fn calls<'a>(steps: Steps<'a>) -> Vec<Call<'a>> {
+    steps.iter().map(|&(key, row)| Call::Insert(key, row)).collect()
 }
 
 /// Insertions into a table of this length, made by fresh.
-fn first(length: usize, keys: Steps, most: usize) -> String {
-    let mut pair = Pair::new(vec![-77; length], vec![-77; length]);
-    let answer = fresh(&mut pair.base, &mut pair.check);
-    let made = format!("fresh {length}:{}\n{}", said(answer), arrays(&pair, most));
-    made + &steps(&mut pair, keys, most)
+fn first(length: usize, keys: Steps) -> String {
+    shown::first(length, &calls(keys))
 }
 
-/// The same with rows 1, 2, 3 and all elements.
+/// The same with rows 1, 2, 3.
 fn into_fresh(length: usize, keys: &[&str]) -> String {
     let rows: Vec<_> = keys.iter().copied().zip(1..).collect();
-    first(length, &rows, length)
+    first(length, &rows)
 }
 
 /// Insertions into a table that stands already.
-fn into(mut pair: Pair, keys: Steps) -> String {
-    let found = format!("given: audit{}\n{}", said(pair.audit()), arrays(&pair, usize::MAX));
-    found + &steps(&mut pair, keys, usize::MAX)
+fn into(pair: Pair, keys: Steps) -> String {
+    shown::into(pair, &calls(keys))
 }
 
 fn figures() -> String {
     let done = [("ab", 7), ("a", 9)];
     let live = [("a", 5), ("a", 0), ("a", 1_000_001)];
     let refused = [("b", 0), ("b", 1_000_001), ("aB", 5), ("", 5), ("_", 0)];
-    let p3 = first(9, &[&done[..], &live, &refused, &[("b", 1_000_000)]].concat(), 9);
-    let p5 = first(9, &[("a", 9)], 9);
+    let p3 = first(9, &[&done[..], &live, &refused, &[("b", 1_000_000)]].concat());
+    let p5 = first(9, &[("a", 9)]);
     let p4 = into(p4(), &[("ab", 5), ("a", 5), ("b", 3)]);
     format!("P1, P2, P3\n{p3}P5\n{p5}P4\n{p4}")
 }
@@ -101,26 +81,23 @@ fn readings() -> String {
 /// Lengths that no table has: SIZE comes before KEY and NUMBER.
 fn lengths() -> String {
     let mut text = String::from("lengths\n");
-    for (n, m) in [(0, 0), (1, 1), (6, 5), (2, 6)] {
-        let mut pair = p1();
-        pair.base.truncate(n);
-        pair.check.truncate(m);
+    for pair in wrong_lengths() {
         text += &into(pair, &[("b", 5), ("B", 0)]);
     }
     text
 }
 
-/// The greatest length, and one more. Of such arrays the first elements are shown.
+/// The greatest length, and one more.
 fn long() -> String {
     let keys = [("a-9", 5), ("a", 1_000_000)];
-    let texts = [65_536, 65_537].map(|length| first(length, &keys, 12));
+    let texts = [65_536, 65_537].map(|length| first(length, &keys));
     format!("greatest length\n{}", texts.concat())
 }
 
 fn identifiers() -> String {
     let (longest, longer) = ("z".repeat(32), "z".repeat(33));
     let keys = [(&longer[..], 5), (&longest, 5), (&longest, 6), (&longest[..31], 7)];
-    format!("identifiers\n{}", first(90, &keys, 90))
+    format!("identifiers\n{}", first(90, &keys))
 }
 
 /// KEY and NUMBER come before DAMAGED.
@@ -130,21 +107,10 @@ fn damage() -> String {
         text += &into(pair, &[("B", 0), ("b", 0), ("b", 5)]);
     }
     for (damage, mut pair) in damaged() {
-        let answer = said(pair.insert("b", 5));
-        let (base, check) = (elements(&pair.base), elements(&pair.check));
-        writeln!(text, "{damage}:{answer};{base};{check}").unwrap();
+        let answer = pair.insert("b", 5);
+        text += &format!("{damage}:{}", in_line(answer, &pair));
     }
     text
-}
-
-/// A linear congruential generator: its next state.
-fn next(state: u64) -> u64 {
-    (state * 1_103_515_245 + 12_345) % 2_147_483_648
-}
-
-/// A number below a bound, from the state's upper bits.
-fn below(state: u64, bound: usize) -> usize {
-    (state / 65_536) as usize % bound
 }
 
 /// Lengths, letters and seeds. They are chosen so that children often move, several at a time
@@ -170,15 +136,11 @@ fn history(length: usize, letters: &str, mut state: u64) -> String {
     let mut pair = Pair::fresh(length);
     let mut text = format!("history {length} {letters}\n");
     for row in 1..=60 {
-        let letter = |_| {
-            state = next(state);
-            letters.as_bytes()[below(state, letters.len())] as char
-        };
-        let drawn: String = [(); 6].map(letter).iter().collect();
-        state = next(state);
-        text += &inserted(&mut pair, &drawn[..1 + below(state, 6)], row);
+        let (key, drawn) = draw(letters, state);
+        text += &Call::Insert(&key, row).line(&mut pair);
+        state = drawn;
     }
-    text + &arrays(&pair, length)
+    text + &arrays(&pair)
 }
 
 #[test]

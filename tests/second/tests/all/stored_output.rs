@@ -2,22 +2,11 @@
 
 use crate::common::Pair;
 use crate::figures::{p1, p2, p3, p4, p5};
+use crate::shown::{arrays, damaged, elements, said, unsound};
 use second::*;
 use std::fmt::Write;
 
 const STORED: &str = include_str!("../../../../crates/figures/stdout");
-
-const EXTREMES: [i32; 11] =
-    [i32::MIN, i32::MIN + 1, -1_000_001, -1_000_000, -8, -1, 0, 1, 8, 9, i32::MAX];
-
-/// Both numbers of an answer.
-pub fn said(answer: Answer) -> String {
-    format!(" {} {}", answer.number, answer.value)
-}
-
-pub fn elements(array: &[i32]) -> String {
-    array.iter().map(|element| format!(" {element}")).collect()
-}
 
 fn answers(pair: &Pair) -> String {
     let mut line = format!(": audit{}", said(audit(&pair.base, &pair.check)));
@@ -30,7 +19,7 @@ fn answers(pair: &Pair) -> String {
 
 /// An answer, and every element after it.
 fn step(mark: &str, answer: Answer, pair: &Pair) -> String {
-    format!("{mark}:{}\n{}\n{}\n", said(answer), elements(&pair.base), elements(&pair.check))
+    format!("{mark}:{}\n{}", said(answer), arrays(pair))
 }
 
 /// The figures' own steps: P1 to P3, then P4, P5 and P6, and P7, each from P3.
@@ -69,30 +58,10 @@ fn short() -> String {
     tables.map(table).concat()
 }
 
-/// Two cells that are each other's parent, a cell that is its own, a leaf right below the root.
-pub fn unsound() -> [Pair; 3] {
-    let ring = Pair::built(9, 6, &[(1, 1, 1), (5, 6, 4), (6, 5, 3)]);
-    let own = Pair::built(9, 5, &[(1, 1, 1), (5, 5, 3)]);
-    let shallow = Pair::built(9, 2, &[(1, 1, 1), (2, 1, -5)]);
-    [ring, own, shallow]
-}
-
 fn tables() -> String {
     let tables = [p1(), p2(), p3(), p4(), p5()].into_iter().chain(unsound());
     let lines = (1..).zip(tables);
     lines.map(|(n, pair)| format!("table {n}{}", answers(&pair))).collect()
-}
-
-/// P3 with each of its elements in turn replaced by extreme values, and what is replaced.
-pub fn damaged() -> Vec<(String, Pair)> {
-    let mut tables = Vec::new();
-    for i in 0..9 {
-        for x in EXTREMES {
-            tables.push((format!("base {i} {x}"), p3().changed(&[('b', i, x)])));
-            tables.push((format!("check {i} {x}"), p3().changed(&[('c', i, x)])));
-        }
-    }
-    tables
 }
 
 fn damage() -> String {

@@ -4,8 +4,8 @@ use native.Mathlib.Omega.{arith}
 use borrow.Author.Needs.{needs}
 use mathlib.Core.Path.{_≡_}
 use lib.ListN.{length, length-set}
-use Rattle.insertions.proofs.draw.Statement.{statement}
-use Rattle.insertions.proofs.draw.Tie as tie
+use Rattle.shown.proofs.draw.Statement.{statement}
+use Rattle.shown.proofs.draw.Tie as tie
 
 abbrev Inv-loop : tie.InvT-loop
 Inv-loop key₀ letters state state₀ i₀ key state' i = (i ≤ length key) × (length key ≡ length key₀)

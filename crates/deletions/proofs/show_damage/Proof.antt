@@ -1,0 +1,54 @@
+-- `show_damage` tries each damage. Assumes nothing.
+use Prim.Native.Nat.{_-_, _≤_}
+use borrow.Author.Needs.{needs}
+use Rattle.deletions.proofs.show_damage.Statement.{statement}
+use Rattle.deletions.proofs.show_damage.Tie as tie
+
+abbrev Inv-loop : tie.InvT-loop
+Inv-loop n₀ n = n ≤ 198
+
+abbrev μ-loop : tie.MeasureT-loop
+μ-loop n₀ n = 198 - n
+
+slice-aggregate-text : tie.Need-slice-aggregate-text Inv-loop μ-loop
+slice-aggregate-text c = search needs
+
+text-requires : tie.Need-text-requires Inv-loop μ-loop
+text-requires c κs = search needs
+
+loop-holds : tie.Need-loop-holds Inv-loop μ-loop
+loop-holds c = search needs
+
+delete-damaged-requires : tie.Need-delete-damaged-requires Inv-loop μ-loop
+delete-damaged-requires c κs = search needs
+
+compact-damaged-requires : tie.Need-compact-damaged-requires Inv-loop μ-loop
+compact-damaged-requires c κs = search needs
+
+add-n : tie.Need-add-n Inv-loop μ-loop
+add-n c = search needs
+
+loop-less : tie.Need-loop-less Inv-loop μ-loop
+loop-less c = search needs
+
+loop-again : tie.Need-loop-again Inv-loop μ-loop
+loop-again c = search needs
+
+returns : tie.Need-returns Inv-loop μ-loop
+returns c = search needs
+
+pub show-damage-spec : {M : Type 1} → statement M
+show-damage-spec =
+    tie.close
+    (tie.spec
+    Inv-loop
+    μ-loop
+    slice-aggregate-text
+    text-requires
+    loop-holds
+    delete-damaged-requires
+    compact-damaged-requires
+    add-n
+    loop-less
+    loop-again
+    returns)
