@@ -4,7 +4,6 @@
 // writes the same text from its own calls.
 use rules::Answer;
 use rules::Row;
-use shown::Pair;
 use shown::answer;
 use shown::arrays;
 use shown::damage;
@@ -50,54 +49,40 @@ fn show(n: usize)
 
 // ---- the figures' own steps
 
-// P1 to P3; what follows them starts from P3 each time.
 fn show_steps() {
-    let mut base = [-77i32; 9];
-    let mut check = [-77i32; 9];
-    step(b"P1", index::fresh(&mut base, &mut check), &base, &check);
+    show_made(&mut [-77i32; 9], &mut [-77i32; 9]);
+    show_compacted(&mut [-77i32; 9], &mut [-77i32; 9]);
+    show_deleted(&mut [-77i32; 9], &mut [-77i32; 9]);
+}
+
+fn show_made(base: &mut [i32], check: &mut [i32]) {
+    step(b"P1", index::fresh(base, check), base, check);
     step(
         b"P2",
-        index::insert(&mut base, &mut check, b"ab", Row(7)),
-        &base,
-        &check,
+        index::insert(base, check, b"ab", Row(7)),
+        base,
+        check,
     );
-    step(
-        b"P3",
-        index::insert(&mut base, &mut check, b"a", Row(9)),
-        &base,
-        &check,
-    );
-    show_compacted(Pair { base, check });
-    show_deleted(Pair { base, check });
-    show_listed(&base, &check);
+    step(b"P3", index::insert(base, check, b"a", Row(9)), base, check);
+    show_listed(base, check);
 }
 
-fn show_compacted(p: Pair) {
-    let mut base = p.base;
-    let mut check = p.check;
-    step(
-        b"P4",
-        index::compact(&mut base, &mut check, 5),
-        &base,
-        &check,
-    );
+// P4 and P5 both start from P3.
+fn make(base: &mut [i32], check: &mut [i32]) {
+    index::fresh(base, check);
+    index::insert(base, check, b"ab", Row(7));
+    index::insert(base, check, b"a", Row(9));
 }
 
-fn show_deleted(p: Pair) {
-    let mut base = p.base;
-    let mut check = p.check;
-    step(
-        b"P5",
-        index::delete(&mut base, &mut check, b"ab"),
-        &base,
-        &check,
-    );
-    step(
-        b"P6",
-        index::delete(&mut base, &mut check, b"a"),
-        &base,
-        &check,
-    );
+fn show_compacted(base: &mut [i32], check: &mut [i32]) {
+    make(base, check);
+    step(b"P4", index::compact(base, check, 5), base, check);
+}
+
+fn show_deleted(base: &mut [i32], check: &mut [i32]) {
+    make(base, check);
+    step(b"P5", index::delete(base, check, b"ab"), base, check);
+    step(b"P6", index::delete(base, check, b"a"), base, check);
 }
 
 // Into a buffer with a byte too few, one that is full then, and one with bytes to spare.
@@ -111,10 +96,13 @@ fn show_listed(base: &[i32], check: &[i32]) {
 fn show_short() {
     insert_first(b"P8 a", &mut [-77i32; 4], &mut [-77i32; 4], b"a");
     insert_first(b"P8 a", &mut [-77i32; 3], &mut [-77i32; 3], b"a");
-    insert_first(b"P9 b", &mut [-77i32; 4], &mut [-77i32; 4], b"b");
-    insert_first(b"P9 ab", &mut [-77i32; 4], &mut [-77i32; 4], b"ab");
-    insert_first(b"P9 b", &mut [-77i32; 5], &mut [-77i32; 5], b"b");
-    insert_first(b"P9 ab", &mut [-77i32; 5], &mut [-77i32; 5], b"ab");
+    show_both(&mut [-77i32; 4], &mut [-77i32; 4]);
+    show_both(&mut [-77i32; 5], &mut [-77i32; 5]);
+}
+
+fn show_both(base: &mut [i32], check: &mut [i32]) {
+    insert_first(b"P9 b", base, check, b"b");
+    insert_first(b"P9 ab", base, check, b"ab");
 }
 
 fn insert_first(mark: &[u8], base: &mut [i32], check: &mut [i32], key: &[u8]) {

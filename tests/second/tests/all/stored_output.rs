@@ -22,7 +22,7 @@ fn step(mark: &str, answer: Answer, pair: &Pair) -> String {
     format!("{mark}:{}\n{}", said(answer), arrays(pair))
 }
 
-/// The figures' own steps: P1 to P3, then P4, P5 and P6, and P7, each from P3.
+/// The figures' own steps: P1 to P3, then P7, P4, and P5 and P6, each from P3.
 fn figures() -> String {
     let mut pair = Pair::new(vec![-77; 9], vec![-77; 9]);
     let answer = fresh(&mut pair.base, &mut pair.check);
@@ -31,6 +31,11 @@ fn figures() -> String {
         let answer = pair.insert(key, row);
         text += &step(mark, answer, &pair);
     }
+    for room in [27, 28, 30] {
+        let mut out = vec![b'.'; room];
+        let answer = list(&pair.base, &pair.check, &mut out);
+        writeln!(text, "P7:{}\n{}", said(answer), String::from_utf8(out).unwrap()).unwrap();
+    }
     let mut compacted = pair.clone();
     let answer = compacted.compact(5);
     text += &step("P4", answer, &compacted);
@@ -38,11 +43,6 @@ fn figures() -> String {
     for (mark, key) in [("P5", "ab"), ("P6", "a")] {
         let answer = deleted.delete(key);
         text += &step(mark, answer, &deleted);
-    }
-    for room in [27, 28, 30] {
-        let mut out = vec![b'.'; room];
-        let answer = list(&pair.base, &pair.check, &mut out);
-        writeln!(text, "P7:{}\n{}", said(answer), String::from_utf8(out).unwrap()).unwrap();
     }
     text
 }
