@@ -9,6 +9,7 @@ mod figures;
 mod generator;
 mod histories;
 mod insertions;
+mod listings;
 mod printed_sheet;
 mod refusals;
 mod shown;
