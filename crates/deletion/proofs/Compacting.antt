@@ -15,8 +15,7 @@ use Rattle.rules.specs.Placement.{placed}
 use Rattle.rules.specs.Insertion.{relocate}
 use Rattle.rules.specs.DeletionAndCompaction.{Moves, trimmed, compactionStep, compactionSteps}
 use Rattle.tree.specs.Soundness.{Sits, Sound}
-use Rattle.tree.specs.StepsTaken.{top, owner, target}
-use Rattle.tree.specs.StepsTaken as taken
+use Rattle.tree.specs.StepsTaken.{top, owner, target, Lowers}
 use Rattle.tree.proofs.Trees.{based-pos, based-inside}
 use Rattle.tree.proofs.ChildCodes.{among-length, codes-lead, step-among, children-inside, based-near}
 use Rattle.tree.proofs.LargestUsed.{largest-pos}
@@ -26,24 +25,24 @@ use Rattle.chain.specs.Search.{Codes}
 use Rattle.chain.specs.Edits.{Shown, celled, Collects, Collected, Relocates}
 use Rattle.chain.proofs.Shown.{shown-small, shown-base, shown-parent}
 use Rattle.chain.proofs.Collected.{collected-behind}
-use Rattle.deletion.specs.Deleting.{Steps, Lowers, Moved, lowering}
+use Rattle.deletion.specs.Deleting.{Steps, LowersChildren, Moved, lowering}
 
 -- ---- one step
 
 module _ (t : Table) where
   -- At the size that it found: what a step leaves that moves, and one that does not.
   lowering-cases : (F : Moves → Type 0) →
-      (taken.Lowers document01 t → F (record { table = celled t (relocate (t .cells) (owner document01 t) (target document01 t)); count = 1 })) →
-      ((taken.Lowers document01 t → ⊥) → F (record { table = t; count = 0 })) → F (lowering t)
+      (Lowers document01 t → F (record { table = celled t (relocate (t .cells) (owner document01 t) (target document01 t)); count = 1 })) →
+      ((Lowers document01 t → ⊥) → F (record { table = t; count = 0 })) → F (lowering t)
   unfolding trimmed
   lowering-cases F = step-cases document01 t (λ m. F (record { table = celled t (m .table .cells); count = m .count }))
 
 module _ (t : Table) {base check : List ℤ} where
-  moves : taken.Lowers document01 t → Shown base check (celled t (relocate (t .cells) (owner document01 t) (target document01 t))) →
+  moves : Lowers document01 t → Shown base check (celled t (relocate (t .cells) (owner document01 t) (target document01 t))) →
       Moved (lowering t) 1 base check
   moves l s = lowering-cases t (λ m. Moved m 1 base check) (λ _. record { count-is = refl; left = s }) (λ d. absurd (d l))
 
-  stays : (taken.Lowers document01 t → ⊥) → Shown base check t → Moved (lowering t) 0 base check
+  stays : (Lowers document01 t → ⊥) → Shown base check t → Moved (lowering t) 0 base check
   stays d s = lowering-cases t (λ m. Moved m 0 base check) (λ l. absurd (d l)) (λ _. record { count-is = refl; left = s })
 
   -- The size is then trimmed.
@@ -77,12 +76,12 @@ module _ {base check : List ℤ} {t : Table} (a : Steps base check t) {u : ℕ} 
       room = room;
     }
 
-    pub lowers : {c : ℕ} {codes : List ℕ} {n : ℕ} → Collected (t .cells) s c codes n → Lowers base check s (take (n - 1) (drop 1 codes)) t
+    pub lowers : {c : ℕ} {codes : List ℕ} {n : ℕ} → Collected (t .cells) s c codes n → LowersChildren base check s (take (n - 1) (drop 1 codes)) t
     lowers w = record { steps = a; below = below; owner-is = owner-is; codes-are = collected-behind w }
 
 -- ---- its parent's children
 
-module _ {base check : List ℤ} {s : ℕ} {codes : List ℕ} {t : Table} (a : Lowers base check s codes t) where
+module _ {base check : List ℤ} {s : ℕ} {codes : List ℕ} {t : Table} (a : LowersChildren base check s codes t) where
   abbrev T : Cells
   T = t .cells
 

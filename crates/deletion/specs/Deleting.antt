@@ -56,7 +56,7 @@ pub record Steps (base check : List ℤ) (t : Table) : Type 0 where
   pub whole : Sound document01 t
 
 -- The same, where the largest used cell is not the root but a child of s, and these are the codes of the children of s.
-pub record Lowers (base check : List ℤ) (s : ℕ) (codes : List ℕ) (t : Table) : Type 0 where
+pub record LowersChildren (base check : List ℤ) (s : ℕ) (codes : List ℕ) (t : Table) : Type 0 where
   pub steps : Steps base check t
   pub below : 1 < top document01 t
   pub owner-is : s ≡ owner document01 t

@@ -7,7 +7,7 @@ use rules::Cell;
 ghost use Rattle.rules.specs.WhatTheIndexDoes.{document01};
 ghost use Rattle.rules.specs.DeletionAndCompaction.{compactionStep, compacted};
 ghost use Rattle.chain.specs.Edits.{SomeTable, EveryTable};
-ghost use Rattle.deletion.specs.Deleting.{Steps, Lowers, lowering, Moved};
+ghost use Rattle.deletion.specs.Deleting.{Steps, LowersChildren, lowering, Moved};
 
 // Trims the size as a step does, then repeats steps until n moves are made or a step moves nothing. Gives the moves made.
 pub fn compact(base: &mut [i32], check: &mut [i32], n: usize) -> usize
@@ -52,8 +52,8 @@ fn lower(base: &mut [i32], check: &mut [i32]) -> usize
 
 // The children of s, whose codes these are, move to their placed base if that is smaller than the base held.
 fn lower_children(base: &mut [i32], check: &mut [i32], s: Cell, codes: &[usize]) -> usize
-    requires { ⌜ SomeTable (Lowers (now base) (now check) (s .0) (now codes)) ⌝ }
-    ensures { λ r. ⌜ EveryTable (Lowers (now (base .entry)) (now (check .entry)) (s .0) (now (codes .entry))) (λ t. Moved (lowering t) r (now (base .exit)) (now (check .exit))) ⌝ }
+    requires { ⌜ SomeTable (LowersChildren (now base) (now check) (s .0) (now codes)) ⌝ }
+    ensures { λ r. ⌜ EveryTable (LowersChildren (now (base .entry)) (now (check .entry)) (s .0) (now (codes .entry))) (λ t. Moved (lowering t) r (now (base .exit)) (now (check .exit))) ⌝ }
 {
     let q = placing::place(base, check, codes);
     if numbers::plus_at(base, s.0) <= q {

@@ -15,7 +15,7 @@ ghost use Rattle.rules.specs.Promised.{Edits};
 ghost use Rattle.chain.specs.Edits.{Shown, SomeTable, EveryTable};
 ghost use Rattle.deletion.specs.Deleting.{Deletes, Removes};
 
-// The cells that a deletion frees.
+// The parents that a deletion leaves without a child.
 pub mod pruning;
 
 // Compaction's steps.

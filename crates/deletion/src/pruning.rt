@@ -1,4 +1,4 @@
-// The cells that a deletion frees: the leaf, then each parent left without a child.
+// The cells that a deletion frees after the leaf: each parent left without a child.
 use chain::cells;
 use chain::moving;
 use rules::Alphabet;

@@ -10,8 +10,7 @@ use lib.ListN.{take}
 use lib.IntN.{ℤ}
 use Rattle.rules.specs.WhatTheIndexDoes.{GREATEST, document01}
 use Rattle.rules.specs.Finding.{nextAt, rowOf}
-use Rattle.rules.specs.Listing.{listed, lineOf}
-use Rattle.text.specs.Lines.{entry}
+use Rattle.rules.specs.Listing.{entry, listed, lineOf}
 use Rattle.listing.specs.Visiting.{linesBelow, linesTried, speltWith, Room, Visits, Tries, Puts, Lists, Spells}
 use Rattle.listing.proofs.Writing.{lists-none, room-first, room-second, lists-then}
 use Rattle.listing.proofs.Beginnings.{begun-length, spells-begin}

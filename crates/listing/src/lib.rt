@@ -12,10 +12,9 @@ ghost use mathlib.Core.Path.{_≡_};
 ghost use Prim.Native.Nat.{_≤_};
 ghost use Rattle.rules.specs.WhatTheIndexDoes.{GREATEST, document01};
 ghost use Rattle.rules.specs.ASoundTable.{sound};
-ghost use Rattle.rules.specs.Listing.{listed, lineOf};
+ghost use Rattle.rules.specs.Listing.{entry, listed, lineOf};
 ghost use Rattle.rules.specs.Calls.{soundList};
 ghost use Rattle.rules.specs.Promised.{Writes};
-ghost use Rattle.text.specs.Lines.{entry};
 ghost use Rattle.listing.specs.Visiting.{Beginning, Visits, Tries, Puts, Lists, Spells, linesBelow, linesTried, speltWith};
 
 // The beginning of an identifier: the first so many of these characters.

@@ -12,6 +12,9 @@ pub record Entry : Type 0 where
   pub key : List ℕ
   pub row : ℕ
 
+abbrev pub entry : List ℕ → ℕ → Entry
+entry key n = record { key = key; row = n }
+
 -- ---- the entries
 
 -- The label tried when n are left: in order of label codes, end mark first.
@@ -32,10 +35,10 @@ tried P visit T s key (suc n) =
 
 -- A visit of the cell s, to which key leads: a leaf is an entry; of any other cell the labels are tried, while there is depth.
 unfoldable pub visited : Profile → ℕ → Cells → ℕ → List ℕ → List Entry
-visited P zero T s key = cond (ltb 0 (T s .row)) (record { key = key; row = T s .row } ∷ []) []
+visited P zero T s key = cond (ltb 0 (T s .row)) (entry key (T s .row) ∷ []) []
 visited P (suc depth) T s key =
     let below = tried P (visited P depth T) T s key (P .greatest) in
-    cond (ltb 0 (T s .row)) (record { key = key; row = T s .row } ∷ []) below
+    cond (ltb 0 (T s .row)) (entry key (T s .row) ∷ []) below
 
 -- The entries of a table: the root is visited; no leaf lies deeper than an identifier's limit and its end mark.
 unfoldable pub entries : Profile → Cells → List Entry

@@ -4,8 +4,8 @@ ghost use mathlib.Core.Path.{_≡_};
 ghost use Prim.Native.Nat.{_+_, _≤_, _<_};
 ghost use lib.ListN.{length};
 ghost use lib.Seq.{sets};
-ghost use Rattle.rules.specs.Listing.{digit, hex, hexes, lineOf};
-ghost use Rattle.text.specs.Lines.{HasRoom, entry};
+ghost use Rattle.rules.specs.Listing.{entry, digit, hex, hexes, lineOf};
+ghost use Rattle.text.specs.Lines.{HasRoom};
 
 // Writes a line of the listing from byte `at` on: the identifier's length, its characters, the row, line feed.
 pub fn put_line(out: &mut [u8], at: usize, key: &[u8], row: Row)

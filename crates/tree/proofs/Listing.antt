@@ -11,7 +11,7 @@ use borrow.Author.Tests.{lt-ltb, le-ltb, ltb-true, ltb-false, eq-eqb, ne-eqb, eq
 use Rattle.numbers.proofs.Cases.{same?}
 use Rattle.rules.specs.WhatTheIndexDoes.{END, Profile, RoundTrip, isIdentifier, labels}
 use Rattle.rules.specs.Table.{Cells, Table, next, walk, lookup}
-use Rattle.rules.specs.Listing.{Entry, listed, spelt, tried, visited, entries}
+use Rattle.rules.specs.Listing.{Entry, entry, listed, spelt, tried, visited, entries}
 use Rattle.rules.proofs.Choices.{branch}
 use Rattle.tree.specs.Soundness.{Step, Held, aLeaf, anInner, Tree, Sound}
 use Rattle.tree.specs.Listed.{Before, InOrder}
@@ -21,9 +21,6 @@ use Rattle.tree.proofs.Trees.{row-low, row-pos, based-row, step-low, st
 use Rattle.tree.proofs.Identifiers.{spelt-codes, identifier-short, live-identifier}
 
 -- ---- lists of entries
-
-abbrev entry : List ℕ → ℕ → Entry
-entry key n = record { key = key; row = n }
 
 pub before-other : (cs ds : List ℕ) → Before cs ds → cs ≢ ds
 before-other cs [] b e = b

@@ -14,7 +14,7 @@ returns : tie.Need-returns
 returns c =
     let h = c .before in
     let w = h .before .walk .ensures in
-    record { reaches = record { cell-is = w .cell-is; met-is = w .met-is }; row-is = row-reached _ _ _ w (h .held .ensures) }
+    record { reaches = w; row-is = row-reached _ _ _ w (h .held .ensures) }
 
 pub look-up-spec : {M : Type 1} → statement M
 look-up-spec = tie.close (tie.spec walk-requires held-requires returns)

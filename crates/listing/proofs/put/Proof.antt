@@ -5,8 +5,7 @@ use native.Mathlib.Omega.{arith}
 use lib.ListN.{length}
 use borrow.Author.Needs.{needs}
 use borrow.Author.Tests.{not-true, not-false}
-use Rattle.rules.specs.Listing.{lineOf}
-use Rattle.text.specs.Lines.{entry}
+use Rattle.rules.specs.Listing.{entry, lineOf}
 use Rattle.text.proofs.Hexadecimal.{length-line}
 use Rattle.listing.proofs.Writing.{lists-measured, lists-written, lists-past}
 use Rattle.listing.proofs.put.Statement.{statement}

@@ -9,7 +9,7 @@ use Rattle.rules.specs.WhatTheIndexDoes.{END, GREATEST}
 use Rattle.rules.specs.Table.{Table}
 use Rattle.chain.specs.Edits.{Collects, Collected}
 use Rattle.chain.proofs.Collected.{collected-within}
-use Rattle.deletion.specs.Deleting.{Steps, Lowers}
+use Rattle.deletion.specs.Deleting.{Steps, LowersChildren}
 use Rattle.deletion.proofs.Compacting.{root-stays, lower-collects, lowers}
 use Rattle.deletion.proofs.compaction.lower.Statement.{statement}
 use Rattle.deletion.proofs.compaction.lower.Tie as tie
@@ -44,7 +44,7 @@ module _ (c : tie.After-collect) {t : Table} (a : Asked (finding (deciding (read
   collected = c .collect .ensures t (can-collect (reading c) a refl)
 
   can-lower : let g = entry (finding (deciding (reading c))) .args in
-      Lowers (g .base .now) (g .check .now) (reading c .plus-at .result) (take (c .collect .result - 1) (drop 1 (c .collect .last .1 .1 .1 .1 .0))) t
+      LowersChildren (g .base .now) (g .check .now) (reading c .plus-at .result) (take (c .collect .result - 1) (drop 1 (c .collect .last .1 .1 .1 .1 .0))) t
   can-lower =
       let r = reading c in
       lowers a (finding (deciding r) .largest-used .ensures t (a .shown)) (deciding r .if1 .left) (r .plus-at .ensures .is) collected

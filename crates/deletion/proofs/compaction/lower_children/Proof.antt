@@ -5,7 +5,7 @@ use Rattle.rules.specs.Table.{Table, used}
 use Rattle.rules.specs.Placement.{placed}
 use Rattle.chain.specs.Edits.{Relocates}
 use Rattle.chain.proofs.Placed.{searches, finds-placed}
-use Rattle.deletion.specs.Deleting.{Lowers}
+use Rattle.deletion.specs.Deleting.{LowersChildren}
 use Rattle.deletion.proofs.Compacting.{lower-codes, children-stay, relocates, children-move}
 use Rattle.deletion.proofs.compaction.lower_children.Statement.{statement}
 use Rattle.deletion.proofs.compaction.lower_children.Tie as tie
@@ -19,7 +19,7 @@ placing c = c .before .before
 
 -- What was asked of the table t.
 abbrev Asked : tie.After-place → Table → Type 0
-Asked c = let a = entry c .args in Lowers (a .base .now) (a .check .now) (a .s .0) (a .codes .now)
+Asked c = let a = entry c .args in LowersChildren (a .base .now) (a .check .now) (a .s .0) (a .codes .now)
 
 placed-here : (c : tie.After-place) {t : Table} → Asked c t → c .place .result ≡ placed (used (t .cells)) (t .size) (entry c .args .codes .now)
 placed-here c a = finds-placed (a .steps .shown) (lower-codes a) (c .place .ensures)
