@@ -3,5 +3,6 @@ pub mod Choices
 pub mod Ranges
 pub mod Lengths
 pub mod Texts
+pub mod Digits
 pub mod Codes
 pub mod Walks

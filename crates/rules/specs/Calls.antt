@@ -44,6 +44,10 @@ unwritten out a = record { answer = a; out = out }
 abbrev pub unchanged : List ℤ → List ℤ → Answer → Edited
 unchanged base check a = record { answer = a; base = base; check = check }
 
+-- A refused run changes no element and no byte.
+abbrev pub untouched : List ℤ → List ℤ → List ℕ → Answer → Ran
+untouched base check out a = record { answer = a; base = base; check = check; out = out }
+
 module _ (P : Profile) (base check : List ℤ) where
   -- fresh: SIZE, or done.
   unfoldable pub freshCall : Edited
@@ -113,10 +117,9 @@ module _ (K : Kind) (P : Profile) (base check : List ℤ) where
       let audited = cond (K .audit P base check) (soundList P base check out) (unwritten out Damaged) in
       cond (rightLengths base check) audited (unwritten out Size)
 
-  -- run: SIZE, DAMAGED, NO SPACE for the whole; then the lines in turn, done with the number of them.
-  unfoldable pub runCall : List ℕ → List ℕ → Ran
-  runCall sheet out =
-      let refused : Answer → Ran = λ a. record { answer = a; base = base; check = check; out = out } in
+  -- On a table known to be sound, a run: NO SPACE for the whole; or the lines in turn, done with the number of them.
+  unfoldable pub soundRun : List ℕ → List ℕ → Ran
+  soundRun sheet out =
       let n = length base in
       let lines = sheetLines sheet in
       let end = answeredLines P (lastCell base) (readTable base check) lines in
@@ -126,6 +129,10 @@ module _ (K : Kind) (P : Profile) (base check : List ℤ) where
         check = renderCheck K P n (end .table);
         out = sets out 0 (end .bytes);
       } in
-      let measured = cond (leb (11 * length lines) (length out)) done (refused NoSpace) in
-      let audited = cond (K .audit P base check) measured (refused Damaged) in
-      cond (rightLengths base check) audited (refused Size)
+      cond (leb (11 * length lines) (length out)) done (untouched base check out NoSpace)
+
+  -- run: SIZE, DAMAGED, then NO SPACE or done.
+  unfoldable pub runCall : List ℕ → List ℕ → Ran
+  runCall sheet out =
+      let audited = cond (K .audit P base check) (soundRun sheet out) (untouched base check out Damaged) in
+      cond (rightLengths base check) audited (untouched base check out Size)

@@ -23,7 +23,7 @@ use Rattle.rules.specs.Commands.{Command, insert, delete, compact, keyAl
 use Rattle.rules.specs.Rendering.{Kind, chained, nextFree, baseHolds, baseOf, checkOf, elements, renderBase, renderCheck, readCells, readTable}
 use Rattle.rules.specs.ARun.{joined, sheetLines, nibble, digits, readOn, field, pairs, commandOf, parsed, answerBytes, answeredLine, answeredLines}
 use Rattle.rules.specs.PlainMethod.{plainRule2, plainRule3, plainSound}
-use Rattle.rules.specs.Calls.{Ran, freshCall, findCall, stored, editCall, commandCall, auditCall, soundList, listCall, runCall}
+use Rattle.rules.specs.Calls.{Ran, freshCall, findCall, stored, editCall, commandCall, auditCall, soundList, listCall, soundRun, runCall}
 
 -- ---- how the figures are written
 
@@ -61,7 +61,7 @@ unfolding
     nextFree baseHolds baseOf checkOf elements renderBase renderCheck readCells readTable
     joined sheetLines nibble digits readOn field pairs commandOf parsed answerBytes answeredLine answeredLines
     plainRule2 plainRule3 plainSound
-    freshCall findCall stored editCall commandCall auditCall soundList listCall runCall
+    freshCall findCall stored editCall commandCall auditCall soundList listCall soundRun runCall
 given K fresh base check out =
     let e = freshCall document01 base check in
     record { answer = e .answer; base = e .base; check = e .check; out = out }

@@ -1,4 +1,4 @@
--- Hexadecimal text: its length, and that a number is written digit by digit, a text character by character and a line part by part.
+-- Hexadecimal text: how long a line is, and that a number is written digit by digit, a text character by character and a line part by part.
 -- Assumes nothing.
 use mathlib.Core.Path.{_≡_, refl}
 use mathlib.Core.List.{List, [], _∷_, _++_, append-assoc, append-nil}
@@ -8,14 +8,10 @@ use native.Mathlib.Omega.{arith}
 use lib.ListN.{length, set, getD, drop, length-append}
 use lib.Seq.{sets, drop-cons}
 use Rattle.rules.specs.Listing.{Entry, digit, hex, hexes, LF, lineOf, linesOf}
+use Rattle.rules.proofs.Digits.{length-hex}
 use Rattle.text.proofs.Sets.{sets-append, sets-then}
 
 -- ---- digits
-
-length-hex : (k n : ℕ) → length (hex k n) ≡ k
-unfolding hex
-length-hex zero n = refl
-length-hex (suc k) n = rw (length-append, length-hex k (n / 16)) (omega arith)
 
 -- The last digit after the others.
 pub hex-step : (l : List ℕ) (at k n : ℕ) → 0 < k →

@@ -40,6 +40,8 @@ pub mod SevenRules
 pub mod TheChain
 -- The listing.
 pub mod Listing
+-- A run.
+pub mod SheetLines
 -- Demand 2.
 pub mod EmptyTable
 pub mod PlainList

@@ -11,6 +11,8 @@ pub mod StepsTaken
 pub mod AfterAnEdit
 pub mod Labels
 pub mod Listed
+-- Sheets.
+pub mod Sheets
 -- The plain list of demand 2.
 pub mod ThePlainList
 -- Lists.
