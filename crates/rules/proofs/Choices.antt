@@ -26,6 +26,10 @@ pub fails : (s : Bool) → (s ≡ true → ⊥) → s ≡ false
 fails true h = absurd (h refl)
 fails false h = refl
 
+pub passes : (s : Bool) → (s ≡ false → ⊥) → s ≡ true
+passes true h = refl
+passes false h = absurd (h refl)
+
 -- After `if !r`, where r is what a test gave.
 module _ {s : Bool} (r : Bool) (is : r ≡ s) where
   pub was-no : not r ≡ true → s ≡ false

@@ -7,18 +7,23 @@ use native.Mathlib.Numerals.{add-one, sub-one}
 use native.Mathlib.Omega.{arith}
 use lib.ListN.{length, set, getD, drop, length-append}
 use lib.Seq.{sets, drop-cons}
+use Rattle.rules.specs.declared.Answer.{Answer}
+use Rattle.rules.specs.Answers.{number, value}
+use Rattle.rules.specs.ARun.{answerBytes}
 use Rattle.rules.specs.Listing.{Entry, digit, hex, hexes, LF, lineOf, linesOf}
 use Rattle.rules.proofs.Digits.{length-hex}
-use Rattle.text.proofs.Sets.{sets-append, sets-then}
+use Rattle.text.proofs.Sets.{sets-append, sets-then, sets-set-past}
 
 -- ---- digits
 
--- The last digit after the others.
+-- The last digit, and the others before it.
 pub hex-step : (l : List ℕ) (at k n : ℕ) → 0 < k →
-    set (sets l at (hex (k - 1) (n / 16))) (at + (k - 1)) (digit (n % 16)) ≡ sets l at (hex k n)
+    sets (set l (at + (k - 1)) (digit (n % 16))) at (hex (k - 1) (n / 16)) ≡ sets l at (hex k n)
 unfolding hex
 hex-step l at zero n h = absurd (omega arith)
-hex-step l at (suc k) n h = rw (sub-one, sets-append, length-hex k (n / 16))
+hex-step l at (suc k) n h =
+    let long : length (hex k (n / 16)) ≡ k = length-hex k (n / 16) in
+    rw (sub-one, sets-append, long) (sets-set-past l at (at + k) (hex k (n / 16)) (digit (n % 16)) (omega (arith, long)))
 
 -- ---- characters
 
@@ -46,6 +51,11 @@ pub line-parts : (l : List ℕ) (at : ℕ) (e : Entry) → let end = at + 2 + 2 
     sets l at (lineOf e)
 unfolding lineOf
 line-parts l at e = simp (sets-append, length-hex, length-hexes)
+
+-- The three parts of an answer, one after the other.
+pub answer-parts : (l : List ℕ) (a : Answer) → set (sets (sets l 0 (hex 2 (number a))) 2 (hex 8 (value a))) 10 LF ≡ sets l 0 (answerBytes a)
+unfolding answerBytes
+answer-parts l a = simp (sets-append, length-hex)
 
 pub lines-append : (es fs : List Entry) → linesOf (es ++ fs) ≡ linesOf es ++ linesOf fs
 unfolding linesOf
