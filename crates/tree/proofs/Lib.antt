@@ -42,6 +42,7 @@ pub mod TheChain
 pub mod Listing
 -- A run.
 pub mod SheetLines
+pub mod LongLines
 -- Demand 2.
 pub mod EmptyTable
 pub mod PlainList
