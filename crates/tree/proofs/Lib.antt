@@ -50,6 +50,8 @@ pub mod AnExample
 pub mod SheetLines
 pub mod LongLines
 pub mod Runs
+pub mod SingleCalls
+pub mod RunCalls
 -- Where the walk stops, insertion begins.
 pub mod Stopping
 pub mod Labels
