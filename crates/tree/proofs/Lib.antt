@@ -51,6 +51,7 @@ pub mod SheetLines
 pub mod LongLines
 pub mod Runs
 pub mod SingleCalls
+pub mod EndedRuns
 pub mod RunCalls
 -- Where the walk stops, insertion begins.
 pub mod Stopping

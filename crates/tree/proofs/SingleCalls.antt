@@ -1,13 +1,13 @@
 -- On arrays that pass the audit every single call, find and the refusals included, leaves the rendering of the table that its
 -- command leaves. Over any kind of table whose audit passes just the renderings of sound tables, as both audits do. Assumes nothing.
 use mathlib.Core.Path.{_≡_, refl, sym, ap₂, _∙_}
-use mathlib.Core.Bool.{true, false}
+use mathlib.Core.Bool.{true}
 use mathlib.Core.List.{List}
 use Prim.Native.Nat.{ℕ}
 use lib.ListN.{length}
 use lib.IntN.{ℤ}
 use Rattle.rules.specs.declared.Answer.{Answer}
-use Rattle.rules.specs.Answers.{isDone, foundOrAbsent}
+use Rattle.rules.specs.Answers.{isDone}
 use Rattle.rules.specs.WhatTheIndexDoes.{Profile, isIdentifier, lastCell}
 use Rattle.rules.specs.Table.{Table}
 use Rattle.rules.specs.Commands.{Command, insert, delete, find, compact, Outcome, keyAllowed, numberAllowed, carriedOut, answered}
