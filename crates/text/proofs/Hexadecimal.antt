@@ -8,7 +8,7 @@ use native.Mathlib.Omega.{arith}
 use lib.ListN.{length, set, getD, drop, length-append}
 use lib.Seq.{sets, drop-cons}
 use Rattle.rules.specs.Listing.{Entry, digit, hex, hexes, LF, lineOf, linesOf}
-use Rattle.rules.proofs.Digits.{length-hex}
+use Rattle.rules.proofs.Digits.{length-hex, length-hexes}
 use Rattle.text.proofs.Sets.{sets-append, sets-then}
 
 -- ---- digits
@@ -21,11 +21,6 @@ hex-step l at zero n h = absurd (omega arith)
 hex-step l at (suc k) n h = rw (sub-one, sets-append, length-hex k (n / 16))
 
 -- ---- characters
-
-pub length-hexes : (key : List ℕ) → length (hexes key) ≡ 2 * length key
-unfolding hexes
-length-hexes [] = refl
-length-hexes (b ∷ key) = rw (length-append, length-hex, length-hexes key) (omega arith)
 
 -- The character i, and the rest after it.
 pub hexes-step : (l key : List ℕ) (at i : ℕ) → i < length key →

@@ -83,8 +83,9 @@ module _ (K : Kind) (P : Profile) (base check : List ℤ) (sheet out : List ℕ)
 
   pub run-needs : Needs (runCall K P base check sheet out)
   unfolding runCall soundRun
-  run-needs = branch Needs (rightLengths base check) (λ _. branch Needs (K .audit P base check)
-      (λ e. branch Needs (leb (11 * length (sheetLines sheet)) (length out)) (λ l _. (e, leb-true _ (length out) l)) (λ _. undone)) (λ _. undone)) (λ _. undone)
+  run-needs = branch Needs (rightLengths base check) (λ _. branch Needs (K .audit P base check) (λ e.
+      branch Needs (leb (11 * length (sheetLines sheet)) (length out)) (λ l _. (e, leb-true _ (length out) l)) (λ _. undone))
+      (λ _. undone)) (λ _. undone)
     where
       undone : false ≡ true → (K .audit P base check ≡ true) × (11 * length (sheetLines sheet) ≤ length out)
       undone d = absurd (true≢false (sym d))

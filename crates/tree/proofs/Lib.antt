@@ -53,6 +53,7 @@ pub mod Runs
 pub mod SingleCalls
 pub mod EndedRuns
 pub mod RunCalls
+pub mod WrittenLines
 -- Where the walk stops, insertion begins.
 pub mod Stopping
 pub mod Labels

@@ -75,5 +75,6 @@ module _ {K : Kind} {P : Profile} (audited : Audited K P) (trip : RoundTrip P) (
       let end = answeredLines P (lastCell base) t (sheetLines s) in
       let out′ = drop (11 * n) (sets out 0 (end .bytes)) in
       let left : length out′ ≡ length out - 11 * n = simp (length-drop, length-sets) in
-      rw (run-done h audited (s ++ r) out room, run-done h audited s out (omega arith), run-done (ended-renders h trip s out) audited r out′ (omega arith), base-length)
+      let second = run-done (ended-renders h trip s out) audited r out′ (omega arith) in
+      rw (run-done h audited (s ++ r) out room, run-done h audited s out (omega arith), second, base-length)
       (ended-parts K P (length base) t s r out w (omega arith))
