@@ -50,7 +50,7 @@ module _ {K : Kind} {P : Profile} (audited : Audited K P) (base check : List ℤ
   kept-rendered : (a : Answer) → record { answer = a; base = base; check = check } ≡ rendered (record { answer = a; table = t })
   kept-rendered a = ap₂ (λ (b c : List ℤ). record { answer = a; base = b; check = c }) (r .base-is) (r .check-is)
 
-  -- So too where it is refused: the arrays are their own table's rendering.
+  -- It is what is stored, also where the command is refused: the arrays are the rendering of their own table.
   pub stored-rendered : (c : Command) → let o = answered P (lastCell base) t true c in stored K P base check o ≡ rendered o
   unfolding stored
   stored-rendered c =
