@@ -11,7 +11,7 @@ use Rattle.rules.specs.declared.Answer.{Answer}
 use Rattle.rules.specs.Answers.{number, value}
 use Rattle.rules.specs.ARun.{answerBytes}
 use Rattle.rules.specs.Listing.{Entry, digit, hex, hexes, LF, lineOf, linesOf}
-use Rattle.rules.proofs.Digits.{length-hex}
+use Rattle.rules.proofs.Digits.{length-hex, length-hexes}
 use Rattle.text.proofs.Sets.{sets-append, sets-then, sets-set-past}
 
 -- ---- digits
@@ -26,11 +26,6 @@ hex-step l at (suc k) n h =
     rw (sub-one, sets-append, long) (sets-set-past l at (at + k) (hex k (n / 16)) (digit (n % 16)) (omega (arith, long)))
 
 -- ---- characters
-
-pub length-hexes : (key : List ℕ) → length (hexes key) ≡ 2 * length key
-unfolding hexes
-length-hexes [] = refl
-length-hexes (b ∷ key) = rw (length-append, length-hex, length-hexes key) (omega arith)
 
 -- The character i, and the rest after it.
 pub hexes-step : (l key : List ℕ) (at i : ℕ) → i < length key →

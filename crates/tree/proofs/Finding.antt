@@ -138,7 +138,7 @@ module _ {K : Kind} {P : Profile} {base check : List ℤ} (r : Renders K P base 
       let w = walkAt base check 1 codes in
       sym (walk-same 1 key k ∙ walk-node T codes []) ∙ all-reached (eqb (w .met) (length key)) (w .cell) h
 
-  rendered-row : (key : List ℕ) → coded P key ≡ true → rowFound base check P key ≡ lookup P T key
+  pub rendered-row : (key : List ℕ) → coded P key ≡ true → rowFound base check P key ≡ lookup P T key
   unfolding rowFound
   rendered-row key k = row-same (leafAt base check P key) ∙ ap (λ (t : ℕ). T t .row) (leaf-same key k) ∙ sym (lookup-row T P key)
 

@@ -40,14 +40,20 @@ pub mod SevenRules
 pub mod TheChain
 -- The listing.
 pub mod Listing
--- A run.
-pub mod SheetLines
 -- Demand 2.
 pub mod EmptyTable
 pub mod PlainList
 pub mod AnyHistory
 pub mod Finding
 pub mod AnExample
+-- A run.
+pub mod SheetLines
+pub mod LongLines
+pub mod Runs
+pub mod SingleCalls
+pub mod EndedRuns
+pub mod RunCalls
+pub mod WrittenLines
 -- Where the walk stops, insertion begins.
 pub mod Stopping
 pub mod Labels

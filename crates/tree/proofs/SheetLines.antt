@@ -25,7 +25,7 @@ pub lines-joined : (b : ℕ) (bs : List ℕ) → b ≢ LF → sheetLines (b ∷ 
 unfolding sheetLines
 lines-joined b bs d = rw (ne-eqb b LF d)
 
-unbroken-tail : (b : ℕ) (l : List ℕ) → Unbroken (b ∷ l) → Unbroken l
+pub unbroken-tail : (b : ℕ) (l : List ℕ) → Unbroken (b ∷ l) → Unbroken l
 unbroken-tail b l u k h = u (suc k) (omega arith)
 
 -- ---- the first line

@@ -13,6 +13,7 @@ pub mod Labels
 pub mod Listed
 -- Sheets.
 pub mod Sheets
+pub mod WrittenLines
 -- The plain list of demand 2.
 pub mod ThePlainList
 -- Lists.
