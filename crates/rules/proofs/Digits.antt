@@ -1,12 +1,19 @@
--- How long hexadecimal text is. Assumes nothing.
-use mathlib.Core.Path.{_≡_, refl}
-use mathlib.Core.List.{List, [], _∷_}
-use Prim.Native.Nat.{ℕ, zero, suc, _*_, _/_}
+-- Hexadecimal text: how long it is, and what its parts are. Assumes nothing.
+use mathlib.Core.Path.{_≡_, refl, sym, ap, _∙_}
+use mathlib.Core.Bool.{Bool, true, false, _&&_}
+use mathlib.Core.List.{List, [], _∷_, _++_}
+use Prim.Native.Nat.{ℕ, zero, suc, _*_, _/_, _≤_}
 use native.Mathlib.Omega.{arith}
-use lib.ListN.{length, length-append}
+use lib.ListN.{length, take, drop, length-append, take-append-drop}
+use lib.Dec.{ltb}
 use Rattle.rules.specs.declared.Answer.{Answer}
+use Rattle.rules.specs.Ranges.{within}
 use Rattle.rules.specs.Listing.{hex, hexes}
-use Rattle.rules.specs.ARun.{answerBytes}
+use Rattle.rules.specs.ARun.{nibble, digits, answerBytes}
+use Rattle.rules.proofs.Choices.{branch, both}
+use Rattle.rules.proofs.Ranges.{within-is}
+
+-- ---- how long
 
 pub length-hex : (k n : ℕ) → length (hex k n) ≡ k
 unfolding hex
@@ -21,3 +28,23 @@ length-hexes (b ∷ key) = rw (length-append, length-hex, length-hexes key) (ome
 pub length-answer : (a : Answer) → length (answerBytes a) ≡ 11
 unfolding answerBytes
 length-answer a = simp (length-append, length-hex)
+
+-- ---- digits
+
+pub nibble-small : (b : ℕ) → nibble b ≤ 16
+unfolding nibble
+nibble-small b = branch (λ n. n ≤ 16) (within 48 57 b) (λ y. omega (arith, within-is 48 57 b y))
+    (λ _. branch (λ n. n ≤ 16) (within 97 102 b) (λ y. omega (arith, within-is 97 102 b y)) (λ _. omega arith))
+
+pub digits-append : (xs ys : List ℕ) → digits (xs ++ ys) ≡ (digits xs && digits ys)
+unfolding digits
+digits-append [] ys = refl
+digits-append (b ∷ xs) ys = rw (digits-append xs ys) (and-both (ltb (nibble b) 16) (digits xs) (digits ys))
+  where
+    and-both : (t x y : Bool) → (t && (x && y)) ≡ ((t && x) && y)
+    and-both true x y = refl
+    and-both false x y = refl
+
+-- Where all are digits, the first k are, and those behind them.
+pub digits-parts : (k : ℕ) (s : List ℕ) → digits s ≡ true → (digits (take k s) ≡ true) × (digits (drop k s) ≡ true)
+digits-parts k s d = both (digits (take k s)) (digits (drop k s)) (sym (digits-append (take k s) (drop k s)) ∙ ap digits (take-append-drop k s) ∙ d)

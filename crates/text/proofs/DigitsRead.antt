@@ -11,18 +11,12 @@ use lib.ListN.{length, getD, take, drop, set, length-set}
 use lib.Seq.{drop-cons, drop-drop, take-add, take-suc-set}
 use lib.Dec.{ltb}
 use borrow.Author.Tests.{le-ltb, lt-ltb}
-use Rattle.rules.specs.Ranges.{within}
 use Rattle.rules.specs.ARun.{nibble, digits, readOn, field, pairs}
-use Rattle.rules.proofs.Choices.{branch, fails, passes}
-use Rattle.rules.proofs.Ranges.{within-is}
+use Rattle.rules.proofs.Choices.{fails, passes}
+use Rattle.rules.proofs.Digits.{nibble-small, digits-append}
 use Rattle.text.specs.Reading.{areDigits, numberIn, NumberAt, NumberRead, CharactersAt, CharactersRead}
 
 -- ---- a digit
-
-pub nibble-small : (b : ℕ) → nibble b ≤ 16
-unfolding nibble
-nibble-small b = branch (λ n. n ≤ 16) (within 48 57 b) (λ y. omega (arith, within-is 48 57 b y))
-    (λ _. branch (λ n. n ≤ 16) (within 97 102 b) (λ y. omega (arith, within-is 97 102 b y)) (λ _. omega arith))
 
 digits-more : (b : ℕ) (bs : List ℕ) → nibble b < 16 → digits (b ∷ bs) ≡ digits bs
 unfolding digits
@@ -31,15 +25,6 @@ digits-more b bs h = rw (lt-ltb (nibble b) 16 h)
 digits-none : (b : ℕ) (bs : List ℕ) → nibble b ≡ 16 → digits (b ∷ bs) ≡ false
 unfolding digits
 digits-none b bs e = rw e
-
-pub digits-append : (xs ys : List ℕ) → digits (xs ++ ys) ≡ (digits xs && digits ys)
-unfolding digits
-digits-append [] ys = refl
-digits-append (b ∷ xs) ys = rw (digits-append xs ys) (and-both (ltb (nibble b) 16) (digits xs) (digits ys))
-  where
-    and-both : (t x y : Bool) → (t && (x && y)) ≡ ((t && x) && y)
-    and-both true x y = refl
-    and-both false x y = refl
 
 -- The first of the k bytes from m on, and those behind it.
 first-byte : (line : List ℕ) (m k : ℕ) → m < length line → 1 ≤ k → take k (drop m line) ≡ getD line m 0 ∷ take (k - 1) (drop (m + 1) line)

@@ -5,7 +5,7 @@ use mathlib.Core.Logic.{⊎-elim}
 use mathlib.Core.Bool.{true, _&&_}
 use mathlib.Core.List.{List, [], _∷_, _++_}
 use mathlib.Core.Option.{none}
-use Prim.Native.Nat.{ℕ, zero, suc, _+_, _*_, _≤_, _<_}
+use Prim.Native.Nat.{ℕ, _+_, _*_, _≤_, _<_}
 use native.Mathlib.Omega.{arith}
 use lib.ListN.{length, take, drop, length-append}
 use lib.Seq.{length-take-le, take-all, getD-take}
@@ -16,16 +16,11 @@ use Rattle.rules.specs.WhatTheIndexDoes.{Profile}
 use Rattle.rules.specs.Table.{Table}
 use Rattle.rules.specs.ARun.{joined, sheetLines, nibble, digits, readOn, field, parsed, answeredLines}
 use Rattle.rules.proofs.Choices.{branch, both}
+use Rattle.rules.proofs.Digits.{digits-parts}
 use Rattle.tree.specs.Sheets.{Unbroken, TOO_LONG}
 use Rattle.tree.proofs.SheetLines.{lines-joined, unbroken-tail}
 
 -- ---- two digits
-
-digits-drop : (i : ℕ) (bs : List ℕ) → digits bs ≡ true → digits (drop i bs) ≡ true
-unfolding digits
-digits-drop zero bs d = d
-digits-drop (suc i) [] d = d
-digits-drop (suc i) (b ∷ bs) d = digits-drop i bs (both (ltb (nibble b) 16) (digits bs) d .1)
 
 read-two : (bs : List ℕ) → digits bs ≡ true → readOn 0 (take 2 bs) < 256
 unfolding digits readOn
@@ -39,7 +34,7 @@ read-two (b ∷ c ∷ bs) d =
 -- Two digits stand for a byte.
 pub field-byte : (line : List ℕ) (i : ℕ) → digits line ≡ true → field line i 2 < 256
 unfolding field
-field-byte line i d = read-two (drop i line) (digits-drop i line d)
+field-byte line i d = read-two (drop i line) (digits-parts i line d .1)
 
 -- ---- a line
 

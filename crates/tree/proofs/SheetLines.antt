@@ -1,6 +1,7 @@
 -- A sheet's lines: the first one, and those of a sheet that is cut after a line feed. Assumes nothing.
 use mathlib.Core.Path.{_≡_, refl, sym, ap, _∙_}
 use mathlib.Core.Logic.{_≢_, _⊎_, inl, inr, ⊎-elim}
+use mathlib.Core.Bool.{true, true≢false}
 use mathlib.Core.List.{List, [], _∷_, _++_, append-assoc, append-nil}
 use Prim.Native.Nat.{ℕ, zero, suc, _+_, _-_, _≤_, _<_}
 use native.Mathlib.Nat.{eq-or-lt-of-le}
@@ -8,11 +9,12 @@ use native.Mathlib.Numerals.{sub-one}
 use native.Mathlib.Omega.{arith}
 use lib.ListN.{length, getD, take, drop, length-append, take-append-drop, drop-of-length-le}
 use lib.Seq.{drop-cons, take-all}
-use lib.Dec.{eqb}
+use lib.Dec.{ltb, eqb}
 use borrow.Author.Tests.{eq-eqb, ne-eqb}
 use Rattle.rules.specs.Listing.{LF}
-use Rattle.rules.specs.ARun.{joined, sheetLines}
-use Rattle.rules.proofs.Choices.{branch, branch₂}
+use Rattle.rules.specs.Ranges.{within}
+use Rattle.rules.specs.ARun.{joined, sheetLines, nibble, digits}
+use Rattle.rules.proofs.Choices.{branch, branch₂, both}
 use Rattle.tree.specs.Sheets.{Unbroken, FirstLine, WholeLines}
 
 -- ---- a byte in front
@@ -27,6 +29,13 @@ lines-joined b bs d = rw (ne-eqb b LF d)
 
 pub unbroken-tail : (b : ℕ) (l : List ℕ) → Unbroken (b ∷ l) → Unbroken l
 unbroken-tail b l u k h = u (suc k) (omega arith)
+
+-- A line feed is no digit.
+pub digits-unbroken : (l : List ℕ) → digits l ≡ true → Unbroken l
+unfolding digits nibble within
+digits-unbroken [] d k h = absurd (omega arith)
+digits-unbroken (b ∷ l) d zero h = λ (e : b ≡ LF). true≢false (sym (rw e at (both (ltb (nibble b) 16) (digits l) d .0)))
+digits-unbroken (b ∷ l) d (suc k) h = digits-unbroken l (both (ltb (nibble b) 16) (digits l) d .1) k (omega arith)
 
 -- ---- the first line
 

@@ -1,7 +1,7 @@
 -- Every command whose text and number the fields can hold is the command of the line that is written for it. Assumes nothing.
 use mathlib.Core.Path.{_≡_, refl, sym, ap, ap₂, _∙_}
 use mathlib.Core.Logic.{⊎-elim}
-use mathlib.Core.Bool.{true, true≢false}
+use mathlib.Core.Bool.{true}
 use mathlib.Core.List.{List, [], _∷_, _++_, append-assoc, append-nil}
 use mathlib.Core.Option.{some}
 use Prim.Native.Nat.{ℕ, zero, suc, _+_, _*_, _/_, _%_, _^_, _≤_, _<_}
@@ -12,16 +12,14 @@ use lib.Seq.{take-at, drop-at}
 use lib.Dec.{ltb}
 use borrow.Author.Tests.{lt-ltb, le-ltb, eq-eqb}
 use Rattle.numbers.proofs.Cases.{lt-or-ge}
-use Rattle.rules.specs.Ranges.{within}
 use Rattle.rules.specs.Listing.{digit, hex, hexes, LF}
 use Rattle.rules.specs.Commands.{Command, insert, delete, find, compact}
 use Rattle.rules.specs.ARun.{sheetLines, nibble, digits, readOn, field, pairs, commandOf, parsed}
-use Rattle.rules.proofs.Choices.{both, join}
+use Rattle.rules.proofs.Choices.{join}
 use Rattle.rules.proofs.Ranges.{inside, above}
 use Rattle.rules.proofs.Digits.{length-hex, length-hexes}
-use Rattle.tree.specs.Sheets.{Unbroken}
 use Rattle.tree.specs.WrittenLines.{fourFields, commandLine, Bytes, Eight, Writable}
-use Rattle.tree.proofs.SheetLines.{lines-feed}
+use Rattle.tree.proofs.SheetLines.{lines-feed, digits-unbroken}
 
 -- ---- digits
 
@@ -50,12 +48,6 @@ fields-digits : (operation : ℕ) (key : List ℕ) (n : ℕ) → digits (fourFie
 unfolding fourFields digits
 fields-digits operation key n =
     hex-digits 2 operation _ (hex-digits 2 (length key) _ (hexes-digits key _ (rw append-nil at (hex-digits 8 n [] refl))))
-
-digits-unbroken : (l : List ℕ) → digits l ≡ true → Unbroken l
-unfolding digits nibble within
-digits-unbroken [] d k h = absurd (omega arith)
-digits-unbroken (b ∷ l) d zero h = λ (e : b ≡ LF). true≢false (sym (rw e at (both (ltb (nibble b) 16) (digits l) d .0)))
-digits-unbroken (b ∷ l) d (suc k) h = digits-unbroken l (both (ltb (nibble b) 16) (digits l) d .1) k (omega arith)
 
 -- ---- a number, read back
 

@@ -7,7 +7,8 @@ use native.Mathlib.Omega.{arith}
 use lib.ListN.{getD}
 use borrow.Author.Needs.{needs}
 use Rattle.rules.specs.ARun.{nibble}
-use Rattle.text.proofs.DigitsRead.{nibble-small, Going, going-first, all-read, not-read, going-more, number-fits}
+use Rattle.rules.proofs.Digits.{nibble-small}
+use Rattle.text.proofs.DigitsRead.{Going, going-first, all-read, not-read, going-more, number-fits}
 use Rattle.text.proofs.reading.number.Statement.{statement}
 use Rattle.text.proofs.reading.number.Tie as tie
 
