@@ -12,6 +12,7 @@ mod insertions;
 mod listings;
 mod printed_sheet;
 mod refusals;
+mod run_sheet;
 mod shown;
 mod stored_output;
 mod traps;

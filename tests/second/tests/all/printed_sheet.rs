@@ -5,7 +5,7 @@ use second::sheets::{sheet, KINDS};
 use std::io::Write;
 use std::process::{Command, Stdio};
 
-const SHEET: &str = "0102616200000007\n01016100000009\n0302616200000000\n\
+pub const SHEET: &str = "0102616200000007\n01016100000009\n0302616200000000\n\
                      0202616200000000\n0302616200000000\n040000000005\n";
 const ANSWERS: &str = "0000000000\n0000000001\n0000000007\n\
                        0000000007\n0600000000\n0000000000\n";
