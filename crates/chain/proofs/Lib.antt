@@ -4,6 +4,7 @@ pub mod Shown
 pub mod Stores
 pub mod Holding
 pub mod Outcomes
+pub mod Answered
 -- The search.
 pub mod TakenCells
 pub mod Seeking

@@ -1,5 +1,5 @@
 // The public calls. None of them asks anything of its caller: each has a promise for arrays of any lengths and contents and for
-// any command, refused ones included, and it determines the answer and every element of the arrays that are lent.
+// any command, refused ones included, and it determines the answer and every element and byte that is lent.
 use rules::Answer;
 use rules::Row;
 ghost use lib.ListN.{length, replicate};
@@ -7,8 +7,8 @@ ghost use mathlib.Core.Path.{_≡_};
 ghost use Rattle.numbers.specs.Stored.{positive};
 ghost use Rattle.rules.specs.WhatTheIndexDoes.{document01};
 ghost use Rattle.rules.specs.Rendering.{chained};
-ghost use Rattle.rules.specs.Calls.{freshCall, findCall, insertCall, deleteCall, compactCall, auditCall, listCall};
-ghost use Rattle.rules.specs.Promised.{Answers, Edits, Writes};
+ghost use Rattle.rules.specs.Calls.{freshCall, findCall, insertCall, deleteCall, compactCall, auditCall, listCall, runCall};
+ghost use Rattle.rules.specs.Promised.{Answers, Edits, Writes, Runs};
 
 // Makes the empty table, whatever the arrays held: SIZE, or done.
 pub fn fresh(base: &mut [i32], check: &mut [i32]) -> Answer
@@ -126,4 +126,18 @@ pub fn list(base: &[i32], check: &[i32], out: &mut [u8]) -> Answer
         return Answer::Damaged;
     }
     listing::list(base, check, out)
+}
+
+// Answers the lines of a sheet in turn, as the single calls would: SIZE, DAMAGED or NO SPACE for the whole, and nothing is changed or
+// written then; or done with the lines answered. Bytes past the answers stay.
+pub fn run(base: &mut [i32], check: &mut [i32], sheet: &[u8], answers: &mut [u8]) -> Answer
+    ensures { λ r. ⌜ Runs (runCall chained document01 (now (base .entry)) (now (check .entry)) (now (sheet .entry)) (now (answers .entry))) r (now (base .exit)) (now (check .exit)) (now (answers .exit)) ⌝ }
+{
+    if !rules::right_lengths(base, check) {
+        return Answer::Size;
+    }
+    if !audit::is_sound(base, check) {
+        return Answer::Damaged;
+    }
+    sheets::run(base, check, sheet, answers)
 }

@@ -2,9 +2,8 @@
 // calls hand on to after their audit.
 use rules::Answer;
 use rules::Row;
-ghost use Prim.Native.Nat.{_≤_};
-ghost use lib.ListN.{length, take};
 ghost use mathlib.Core.Bool.{true};
+ghost use mathlib.Core.Option.{some};
 ghost use mathlib.Core.Path.{_≡_};
 ghost use Rattle.rules.specs.WhatTheIndexDoes.{document01};
 ghost use Rattle.rules.specs.ASoundTable.{sound};
@@ -12,7 +11,7 @@ ghost use Rattle.rules.specs.Commands.{insert, delete, find, compact};
 ghost use Rattle.rules.specs.Rendering.{chained};
 ghost use Rattle.rules.specs.Calls.{soundRun};
 ghost use Rattle.rules.specs.Promised.{Edits, Runs};
-ghost use Rattle.sheets.specs.Answering.{AnswersLines, LinesAnswered, AnswersFields, commandEdit, fieldsEdit};
+ghost use Rattle.sheets.specs.Answering.{AnswersLines, LinesAnswered, CarriesOut, lineEdit, fieldsEdit};
 
 // A sheet's lines: how many there are, and where one ends.
 pub mod lines;
@@ -41,7 +40,8 @@ pub fn answer(base: &mut [i32], check: &mut [i32], sheet: &[u8], answers: &mut [
     let mut count = 0;
     while 0 < rest.len() {
         let line = reading::read(rest, &mut key);
-        let said = carry_out(base, check, line.operation, line.number, &key[..line.length]);
+        let length = line.length;
+        let said = carry_out(base, check, line.operation, line.number, &key[..length]);
         let at = 11 * count;
         text::put_answer(&mut answers[at..], said);
         count += 1;
@@ -59,7 +59,7 @@ fn carry_out(
     number: usize,
     key: &[u8],
 ) -> Answer
-    requires { ⌜ AnswersFields (now base) (now check) number ⌝ }
+    requires { ⌜ CarriesOut (now base) (now check) number ⌝ }
     ensures { λ r. ⌜ Edits (fieldsEdit (now (base .entry)) (now (check .entry)) operation number (now (key .entry))) r (now (base .exit)) (now (check .exit)) ⌝ }
 {
     if operation == 1 {
@@ -88,7 +88,7 @@ fn carry_out(
 // A line's insertion: KEY, NUMBER, then the insertion itself.
 fn insert(base: &mut [i32], check: &mut [i32], key: &[u8], row: Row) -> Answer
     requires { ⌜ sound document01 (now base) (now check) ≡ true ⌝ }
-    ensures { λ r. ⌜ Edits (commandEdit (now (base .entry)) (now (check .entry)) (insert (now (key .entry)) (row .0))) r (now (base .exit)) (now (check .exit)) ⌝ }
+    ensures { λ r. ⌜ Edits (lineEdit (now (base .entry)) (now (check .entry)) (some (insert (now (key .entry)) (row .0)))) r (now (base .exit)) (now (check .exit)) ⌝ }
 {
     if !rules::is_identifier(key) {
         return Answer::Key;
@@ -102,7 +102,7 @@ fn insert(base: &mut [i32], check: &mut [i32], key: &[u8], row: Row) -> Answer
 // A line's deletion: KEY, then the deletion itself.
 fn delete(base: &mut [i32], check: &mut [i32], key: &[u8]) -> Answer
     requires { ⌜ sound document01 (now base) (now check) ≡ true ⌝ }
-    ensures { λ r. ⌜ Edits (commandEdit (now (base .entry)) (now (check .entry)) (delete (now (key .entry)))) r (now (base .exit)) (now (check .exit)) ⌝ }
+    ensures { λ r. ⌜ Edits (lineEdit (now (base .entry)) (now (check .entry)) (some (delete (now (key .entry))))) r (now (base .exit)) (now (check .exit)) ⌝ }
 {
     if !rules::is_identifier(key) {
         return Answer::Key;
@@ -113,7 +113,7 @@ fn delete(base: &mut [i32], check: &mut [i32], key: &[u8]) -> Answer
 // A line's lookup: KEY, then the walk.
 fn find(base: &[i32], check: &[i32], key: &[u8]) -> Answer
     requires { ⌜ sound document01 (now base) (now check) ≡ true ⌝ }
-    ensures { λ r. ⌜ Edits (commandEdit (now (base .entry)) (now (check .entry)) (find (now (key .entry)))) r (now (base .entry)) (now (check .entry)) ⌝ }
+    ensures { λ r. ⌜ Edits (lineEdit (now (base .entry)) (now (check .entry)) (some (find (now (key .entry))))) r (now (base .entry)) (now (check .entry)) ⌝ }
 {
     if !rules::is_identifier(key) {
         return Answer::Key;
@@ -124,7 +124,7 @@ fn find(base: &[i32], check: &[i32], key: &[u8]) -> Answer
 // A line's compaction: NUMBER, then the compaction itself.
 fn compact(base: &mut [i32], check: &mut [i32], n: usize) -> Answer
     requires { ⌜ sound document01 (now base) (now check) ≡ true ⌝ }
-    ensures { λ r. ⌜ Edits (commandEdit (now (base .entry)) (now (check .entry)) (compact n)) r (now (base .exit)) (now (check .exit)) ⌝ }
+    ensures { λ r. ⌜ Edits (lineEdit (now (base .entry)) (now (check .entry)) (some (compact n))) r (now (base .exit)) (now (check .exit)) ⌝ }
 {
     if rules::MOST_MOVES < n {
         return Answer::Number;

@@ -4,7 +4,7 @@ ghost use Prim.Native.Nat.{_≤_};
 ghost use lib.ListN.{length};
 ghost use Rattle.rules.specs.ARun.{sheetLines};
 ghost use Rattle.tree.specs.Sheets.{FirstLine};
-ghost use Rattle.sheets.specs.Counting.{feedsIn, isUnfinished, Counts, Next};
+ghost use Rattle.sheets.specs.Counting.{feedsIn, isUnfinished, Next};
 
 // So many bytes are counted at a time.
 const BLOCK: usize = 240;

@@ -1,6 +1,8 @@
 // What a line says. A line that is a command tells its own length, so that only what is none is searched for its end.
 use text::reading::NO_NUMBER;
-ghost use Rattle.sheets.specs.Reading.{Reads, FieldsRead, NoFields, IsEnd};
+ghost use mathlib.Core.Path.{_≡_};
+ghost use lib.ListN.{length};
+ghost use Rattle.sheets.specs.Reading.{FieldsRead, NoFields, isEnd};
 
 // The fields of a line, with the length of its characters in the place of the characters, and where it ends. Operation 0 is none.
 pub struct Fields {
@@ -12,7 +14,7 @@ pub struct Fields {
 
 // Reads the first line of what is left of a sheet; its characters go into the key.
 pub fn read(rest: &[u8], key: &mut [u8]) -> Fields
-    requires { ⌜ Reads (now rest) (now key) ⌝ }
+    requires { ⌜ length (now key) ≡ 255 ⌝ }
     ensures { λ r. ⌜ FieldsRead (now (rest .entry)) (now (key .exit)) (r .operation) (r .length) (r .number) (r .end) ⌝ }
 {
     if rest.len() < 12 {
@@ -47,7 +49,7 @@ pub fn read(rest: &[u8], key: &mut [u8]) -> Fields
 
 // A line can end there: at the end of what is left, or at a line feed.
 fn is_end(rest: &[u8], end: usize) -> bool
-    ensures { λ r. ⌜ IsEnd (now (rest .entry)) end r ⌝ }
+    ensures { λ r. ⌜ r ≡ isEnd (now (rest .entry)) end ⌝ }
 {
     if end < rest.len() {
         return rest[end] == b'\n';

@@ -45,7 +45,7 @@ ended K P k t sheet out =
 
 module _ {K : Kind} {P : Profile} {base check : List ℤ} {t : Table} (r : Renders K P base check t) where
   -- Another sound table, rendered into arrays of the same length.
-  again-renders : {t′ : Table} → Sound P t′ → t′ .size ≤ lastCell base →
+  pub again-renders : {t′ : Table} → Sound P t′ → t′ .size ≤ lastCell base →
       Renders K P (renderBase (length base) t′) (renderCheck K P (length base) t′) t′
   unfolding rightLengths
   again-renders {t′} w fits =

@@ -3,16 +3,19 @@
 use mathlib.Core.Path.{_≡_, refl, sym, ap₂, _∙_}
 use mathlib.Core.Bool.{true}
 use mathlib.Core.List.{List}
+use mathlib.Core.Option.{Option, none, some}
 use Prim.Native.Nat.{ℕ}
 use lib.ListN.{length}
 use lib.IntN.{ℤ}
 use Rattle.rules.specs.declared.Answer.{Answer}
+use Rattle.rules.specs.declared.Answer.the-variants.{Line}
 use Rattle.rules.specs.Answers.{isDone}
 use Rattle.rules.specs.WhatTheIndexDoes.{Profile, isIdentifier, lastCell}
 use Rattle.rules.specs.Table.{Table}
 use Rattle.rules.specs.Commands.{Command, insert, delete, find, compact, Outcome, keyAllowed, numberAllowed, carriedOut, answered}
 use Rattle.rules.specs.Rendering.{Kind, chained, renderBase, renderCheck, readTable}
 use Rattle.rules.specs.PlainMethod.{plain}
+use Rattle.rules.specs.ARun.{answeredLine}
 use Rattle.rules.specs.Calls.{Edited, findCall, stored, editCall, commandCall}
 use Rattle.rules.proofs.Choices.{branch, branch₂}
 use Rattle.tree.specs.Renders.{Renders}
@@ -44,7 +47,7 @@ module _ {K : Kind} {P : Profile} (audited : Audited K P) (base check : List ℤ
   r = audited .renders base check e
 
   -- The table's rendering, whatever the answer is.
-  abbrev rendered : Outcome → Edited
+  abbrev pub rendered : Outcome → Edited
   rendered o = record { answer = o .answer; base = renderBase (length base) (o .table); check = renderCheck K P (length base) (o .table) }
 
   kept-rendered : (a : Answer) → record { answer = a; base = base; check = check } ≡ rendered (record { answer = a; table = t })
@@ -57,6 +60,12 @@ module _ {K : Kind} {P : Profile} (audited : Audited K P) (base check : List ℤ
       let o = answered P (lastCell base) t true c in
       branch (λ (x : Edited). x ≡ rendered o) (isDone (o .answer)) (λ _. refl)
       (λ f. rw (refused-unchanged P (lastCell base) t true c f) (kept-rendered (o .answer)))
+
+  -- The same of a run's line, LINE included.
+  pub line-rendered : (c : Option Command) → let o = answeredLine P (lastCell base) t c in stored K P base check o ≡ rendered o
+  unfolding answeredLine stored
+  line-rendered none = kept-rendered Line
+  line-rendered (some c) = stored-rendered c
 
   find-rendered : (key : List ℕ) → record { answer = findCall P base check key; base = base; check = check } ≡
       rendered (answered P (lastCell base) t true (find key))

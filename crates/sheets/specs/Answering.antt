@@ -1,0 +1,49 @@
+-- What is asked of those who answer lines on a table known to be sound, and what they leave.
+use mathlib.Core.Path.{_≡_}
+use mathlib.Core.Bool.{true}
+use mathlib.Core.List.{List}
+use mathlib.Core.Option.{Option, some}
+use Prim.Native.Nat.{ℕ, _*_, _≤_, _<_}
+use lib.ListN.{length}
+use lib.Seq.{sets}
+use lib.IntN.{ℤ}
+use Rattle.rules.specs.WhatTheIndexDoes.{document01, lastCell}
+use Rattle.rules.specs.ASoundTable.{sound}
+use Rattle.rules.specs.Rendering.{chained, renderBase, renderCheck, readTable}
+use Rattle.rules.specs.Commands.{Command}
+use Rattle.rules.specs.ARun.{sheetLines, commandOf, Answered, answeredLine, answeredLines}
+use Rattle.rules.specs.Calls.{Edited, stored}
+
+-- ---- one line
+
+module _ (base check : List ℤ) where
+  -- What a line leaves, by its command or none.
+  abbrev pub lineEdit : Option Command → Edited
+  lineEdit o = stored chained document01 base check (answeredLine document01 (lastCell base) (readTable base check) o)
+
+  -- The same by its fields.
+  abbrev pub fieldsEdit : ℕ → ℕ → List ℕ → Edited
+  fieldsEdit operation number key = lineEdit (commandOf operation (length key) key number)
+
+-- That a line's fields be carried out.
+pub record CarriesOut (base check : List ℤ) (number : ℕ) : Type 0 where
+  pub whole : sound document01 base check ≡ true
+  pub small : number < 4294967296
+
+-- ---- all of them
+
+-- That the lines of a sheet be answered, with room for an answer to each.
+pub record AnswersLines (base check : List ℤ) (sheet out : List ℕ) : Type 0 where
+  pub whole : sound document01 base check ≡ true
+  pub room : 11 * length (sheetLines sheet) ≤ length out
+
+-- The answers to the lines, and the table after them.
+abbrev pub linesAnswered : List ℤ → List ℤ → List ℕ → Answered
+linesAnswered base check sheet = answeredLines document01 (lastCell base) (readTable base check) (sheetLines sheet)
+
+-- The number of lines, the rendering of the table after them, and each answer in the buffer.
+pub record LinesAnswered (base check : List ℤ) (sheet out : List ℕ) (r : ℕ) (base′ check′ : List ℤ) (out′ : List ℕ) : Type 0 where
+  pub count-is : r ≡ length (sheetLines sheet)
+  pub base-is : base′ ≡ renderBase (length base) (linesAnswered base check sheet .table)
+  pub check-is : check′ ≡ renderCheck chained document01 (length base) (linesAnswered base check sheet .table)
+  pub out-is : out′ ≡ sets out 0 (linesAnswered base check sheet .bytes)
