@@ -11,12 +11,26 @@ use lib.ListN.{length, getD, take, drop, set, length-set}
 use lib.Seq.{drop-cons, drop-drop, take-add, take-suc-set}
 use lib.Dec.{ltb}
 use borrow.Author.Tests.{le-ltb, lt-ltb}
+use Rattle.rules.specs.Ranges.{within}
 use Rattle.rules.specs.ARun.{nibble, digits, readOn, field, pairs}
 use Rattle.rules.proofs.Choices.{fails, passes}
 use Rattle.rules.proofs.Digits.{nibble-small, digits-append}
 use Rattle.text.specs.Reading.{areDigits, numberIn, NumberAt, NumberRead, CharactersAt, CharactersRead}
 
 -- ---- a digit
+
+module _ (b : ℕ) where
+  pub numeral : within 48 57 b ≡ true → nibble b ≡ b - 48
+  unfolding nibble
+  numeral y = rw y
+
+  pub letter : within 48 57 b ≡ false → within 97 102 b ≡ true → nibble b ≡ b - 87
+  unfolding nibble
+  letter f y = rw (f, y)
+
+  pub neither : within 48 57 b ≡ false → within 97 102 b ≡ false → nibble b ≡ 16
+  unfolding nibble
+  neither f g = rw (f, g)
 
 digits-more : (b : ℕ) (bs : List ℕ) → nibble b < 16 → digits (b ∷ bs) ≡ digits bs
 unfolding digits
@@ -75,18 +89,19 @@ module _ (line : List ℕ) (i k : ℕ) (asked : NumberAt line i k) where
           let no : areDigits line i k ≡ false = sym (g .digits-left) ∙ ap digits front ∙ digits-none b _ e in
           record { is = rw no; small = λ y. absurd (true≢false (sym y ∙ no)) }
 
-      pub going-more : nibble b ≢ 16 → Going line i k (n * 16 + nibble b) (j + 1)
+      -- d is what the digit stands for.
+      pub going-more : {d : ℕ} → nibble b ≡ d → d < 16 → Going line i k (n * 16 + d) (j + 1)
       unfolding readOn
-      going-more d =
-          let s : nibble b < 16 = omega (arith, nibble-small b) in
-          record {
+      going-more is small =
+          let s : nibble b < 16 = omega arith in
+          rw (← is) (record {
             within = omega arith;
             small = rw (add-one, pow-suc) (omega (arith, g .small));
             digits-left = sym (ap digits front ∙ digits-more b _ s) ∙ g .digits-left;
             number-left = sym (ap (readOn n) front) ∙ g .number-left;
-          }
+          })
 
-      pub number-fits : nibble b ≤ 16 → n * 16 + nibble b < 4294967312
+      pub number-fits : {d : ℕ} → d < 16 → n * 16 + d < 4294967296
       number-fits s = let p : 16 ^ (j + 1) ≤ 16 ^ 8 = pow-le-pow-right {n = 16} (omega arith) {i = j + 1} {j = 8} (omega (arith, asked .few)) in
           let q : 16 ^ (j + 1) ≡ 16 ^ j * 16 = rw (add-one, pow-suc) in
           omega (arith, g .small)

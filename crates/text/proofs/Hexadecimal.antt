@@ -1,20 +1,38 @@
 -- Hexadecimal text: how long a line is, and that a number is written digit by digit, a text character by character and a line part by part.
 -- Assumes nothing.
 use mathlib.Core.Path.{_≡_, refl}
+use mathlib.Core.Bool.{Bool}
 use mathlib.Core.List.{List, [], _∷_, _++_, append-assoc, append-nil}
 use Prim.Native.Nat.{ℕ, zero, suc, _+_, _*_, _-_, _/_, _%_, _<_}
 use native.Mathlib.Numerals.{add-one, sub-one}
 use native.Mathlib.Omega.{arith}
 use lib.ListN.{length, set, getD, drop, length-append}
 use lib.Seq.{sets, drop-cons}
+use lib.Dec.{eqb}
+use borrow.Author.Tests.{eqb-true}
+use Rattle.rules.specs.Ranges.{eachTo}
 use Rattle.rules.specs.declared.Answer.{Answer}
 use Rattle.rules.specs.Answers.{number, value}
 use Rattle.rules.specs.ARun.{answerBytes}
 use Rattle.rules.specs.Listing.{Entry, digit, hex, hexes, LF, lineOf, linesOf}
+use Rattle.rules.proofs.Ranges.{each-to}
 use Rattle.rules.proofs.Digits.{length-hex, length-hexes}
 use Rattle.text.proofs.Sets.{sets-append, sets-then, sets-set-past}
 
 -- ---- digits
+
+-- The characters 0-9 and a-f are the digits, by a test that is computed at each of them.
+unfoldable pub digits : List ℕ
+digits = 48 ∷ 49 ∷ 50 ∷ 51 ∷ 52 ∷ 53 ∷ 54 ∷ 55 ∷ 56 ∷ 57 ∷ 97 ∷ 98 ∷ 99 ∷ 100 ∷ 101 ∷ 102 ∷ []
+
+right : ℕ → Bool
+right k = eqb (getD digits (k - 1) 0) (digit (k - 1))
+
+pub each-digit : (n : ℕ) → n < 16 → getD digits n 0 ≡ digit n
+unfolding digits right digit eachTo
+each-digit n h =
+    let e : suc n - 1 ≡ n = omega arith in
+    rw e at (eqb-true (getD digits (suc n - 1) 0) (digit (suc n - 1)) (each-to right 16 refl (suc n) (omega arith) (omega arith)))
 
 -- The last digit, and the others before it.
 pub hex-step : (l : List ℕ) (at k n : ℕ) → 0 < k →

@@ -2,10 +2,10 @@
 use rules::Answer;
 use rules::Row;
 ghost use mathlib.Core.Path.{_≡_};
-ghost use Prim.Native.Nat.{_+_, _≤_, _<_};
+ghost use Prim.Native.Nat.{_+_, _≤_};
 ghost use lib.ListN.{length};
 ghost use lib.Seq.{sets};
-ghost use Rattle.rules.specs.Listing.{entry, digit, hex, hexes, lineOf};
+ghost use Rattle.rules.specs.Listing.{entry, hex, hexes, lineOf};
 ghost use Rattle.rules.specs.ARun.{answerBytes};
 ghost use Rattle.text.specs.Lines.{HasRoom};
 
@@ -51,23 +51,12 @@ pub fn put_hex(out: &mut [u8], at: usize, k: usize, n: usize)
     requires { ⌜ at + k ≤ length (now out) ⌝ }
     ensures { λ _. ⌜ now (out .exit) ≡ sets (now (out .entry)) at (hex k n) ⌝ }
 {
+    let digits = b"0123456789abcdef";
     let mut left = k;
     let mut rest = n;
     while 0 < left {
         left -= 1;
-        out[at + left] = digit(rest % 16);
+        out[at + left] = digits[rest % 16];
         rest = rest / 16;
-    }
-}
-
-// The lower-case hexadecimal digit of a number below 16.
-fn digit(n: usize) -> u8
-    requires { ⌜ n < 16 ⌝ }
-    ensures { λ r. ⌜ r ≡ digit n ⌝ }
-{
-    if n < 10 {
-        b'0' + n as u8
-    } else {
-        b'a' + (n - 10) as u8
     }
 }

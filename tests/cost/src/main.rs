@@ -2,7 +2,8 @@
 //! make one call of the proved program on it, for `run` to count. A table's file has base, then check, each number as 4 bytes.
 //! `cost insert KIND COUNT LENGTH` makes inserts of the proved program from a fresh table on, and compares the table with the one
 //! that the second program makes; `cost delete KIND COUNT LENGTH` makes them and then deletes as many. `cost list FILE`
-//! lists a table, and compares the bytes.
+//! lists a table, and compares the bytes. `cost single COUNT FIRST LENGTH` inserts so many identifiers in order, from that number
+//! on, after as many before it; `cost run` does the same by one sheet, and compares the answers.
 
 use second::sheets::{line, Random};
 use std::fs;
@@ -26,6 +27,25 @@ extern "C" {
         key: *const u8,
         key_len: usize,
         row: u32,
+    ) -> u64;
+    fn cost_single(
+        base: *mut i32,
+        base_len: usize,
+        check: *mut i32,
+        check_len: usize,
+        key: *const u8,
+        key_len: usize,
+        row: u32,
+    ) -> u64;
+    fn cost_run(
+        base: *mut i32,
+        base_len: usize,
+        check: *mut i32,
+        check_len: usize,
+        sheet: *const u8,
+        sheet_len: usize,
+        answers: *mut u8,
+        answers_len: usize,
     ) -> u64;
     fn cost_delete(
         base: *mut i32,
@@ -67,6 +87,12 @@ fn main() {
             edits(kind, count, deleted, length.parse().unwrap())
         }
         ["list", file] => list(file),
+        ["single", count, first, length] => {
+            single(count.parse().unwrap(), first.parse().unwrap(), length.parse().unwrap())
+        }
+        ["run", count, first, length] => {
+            run(count.parse().unwrap(), first.parse().unwrap(), length.parse().unwrap())
+        }
         _ => exit(2),
     }
 }
@@ -97,6 +123,57 @@ fn edits(kind: &str, count: u32, deleted: u32, length: usize) {
     second::run(&mut second_base, &mut second_check, &sheet, &mut vec![0; 11 * lines.len()]);
     assert!(base == second_base && check == second_check);
     println!("cells {}", base[0]);
+}
+
+/// The lines that insert so many identifiers in order, from a number on.
+fn inserts(count: u32, first: u32) -> Vec<u8> {
+    let lines = (first..first + count).map(|n| line(1, format!("nl-{n:06}").as_bytes(), n + 1));
+    lines.flat_map(|line| [line, b"\n".to_vec()].concat()).collect()
+}
+
+/// A table with the identifiers before a number.
+fn table(first: u32, length: usize) -> (Vec<i32>, Vec<i32>) {
+    let (mut base, mut check) = (vec![0; length], vec![0; length]);
+    second::fresh(&mut base, &mut check);
+    second::run(&mut base, &mut check, &inserts(first, 0), &mut vec![0; 11 * first as usize]);
+    (base, check)
+}
+
+fn single(count: u32, first: u32, length: usize) {
+    let (mut base, mut check) = table(first, length);
+    let (b, c) = (&mut base[..], &mut check[..]);
+    for n in first..first + count {
+        let key = format!("nl-{n:06}");
+        let (k, len) = (key.as_ptr(), key.len());
+        let done =
+            unsafe { cost_single(b.as_mut_ptr(), b.len(), c.as_mut_ptr(), c.len(), k, len, n + 1) };
+        assert_eq!(done, 0);
+    }
+}
+
+fn run(count: u32, first: u32, length: usize) {
+    let (mut base, mut check) = table(first, length);
+    let (mut second_base, mut second_check) = (base.clone(), check.clone());
+    let (b, c) = (&mut base[..], &mut check[..]);
+    let sheet = inserts(count, first);
+    let mut answers = vec![0; 11 * count as usize];
+    let mut second_answers = answers.clone();
+    let (s, a) = (&sheet[..], &mut answers[..]);
+    let lines = unsafe {
+        cost_run(
+            b.as_mut_ptr(),
+            b.len(),
+            c.as_mut_ptr(),
+            c.len(),
+            s.as_ptr(),
+            s.len(),
+            a.as_mut_ptr(),
+            a.len(),
+        )
+    };
+    assert_eq!(lines, count.into());
+    second::run(&mut second_base, &mut second_check, &sheet, &mut second_answers);
+    assert!(base == second_base && check == second_check && answers == second_answers);
 }
 
 fn list(file: &str) {
