@@ -1,0 +1,108 @@
+-- A sheet in parts: a part is cut and carried over so that nothing is lost, and however the sheet is cut, its answers are the same.
+-- Assumes nothing.
+use mathlib.Core.Path.{_≡_, refl, sym, ap, ap₂, _∙_}
+use mathlib.Core.Logic.{_≢_, inl, inr, ⊎-elim}
+use mathlib.Core.Bool.{true}
+use mathlib.Core.List.{List, [], _∷_, _++_, append-assoc, append-nil}
+use Prim.Native.Nat.{ℕ, suc, _+_, _*_, _-_, _≤_, _<_, min}
+use native.Mathlib.Nat.{eq-or-lt-of-le, zero-add}
+use native.Mathlib.Numerals.{add-one, sub-one}
+use native.Mathlib.Omega.{arith}
+use lib.ListN.{length, getD, take, drop, set, length-take, length-drop, length-set, take-append-drop, drop-of-length-le}
+use lib.Seq.{sets, sets-eq, length-sets, length-take-le, take-all, take-take, take-at, take-append-le, drop-append-le, getD-take, getD-drop, getD-set-same, getD-set-other, ext-getD}
+use lib.IntN.{ℤ}
+use Rattle.numbers.proofs.Cases.{same?, lt-or-ge}
+use Rattle.rules.specs.WhatTheIndexDoes.{document01, lastCell}
+use Rattle.rules.specs.ASoundTable.{sound}
+use Rattle.rules.specs.Listing.{LF}
+use Rattle.rules.specs.Rendering.{chained, readTable}
+use Rattle.rules.specs.ARun.{sheetLines, Answered, answeredLines}
+use Rattle.rules.proofs.Codes.{document01-round-trip}
+use Rattle.tree.specs.Renders.{Renders}
+use Rattle.tree.specs.Sheets.{Unbroken, WholeLines, TOO_LONG}
+use Rattle.tree.proofs.Elements.{base-length}
+use Rattle.tree.proofs.SevenRules.{rules-render, render-rules, one-table}
+use Rattle.tree.proofs.SheetLines.{lines-few, lines-cut}
+use Rattle.tree.proofs.LongLines.{shortened}
+use Rattle.tree.proofs.Runs.{answered-append, length-answers}
+use Rattle.tree.proofs.EndedRuns.{ended-renders}
+use Rattle.sheets.specs.Answering.{linesAnswered, LinesAnswered}
+use Rattle.parts.specs.Parts.{Cut, Carries, Carried, AnswersPart, behind, PartAnswered, Streamed, ended, part}
+
+-- ---- a part
+
+-- What is behind the cut, in the part and in the buffer.
+rest-same : (l : List ℕ) (from to : ℕ) → from ≤ to → to ≤ length l → drop from (take to l) ≡ take (to - from) (drop from l)
+rest-same l from to order within =
+    let long : length (take to l) ≡ to = length-take-le to l within in
+    let left : length (drop from (take to l)) ≡ length (take to l) - from = length-drop from (take to l) in
+    sym (ap (λ (x : List ℕ). take (to - from) (drop from x)) (sym (take-append-drop to l))
+    ∙ ap (take (to - from)) (drop-append-le from (take to l) (drop to l) (omega arith))
+    ∙ take-append-le (to - from) (drop from (take to l)) (drop to l) (omega arith)
+    ∙ take-all (to - from) (drop from (take to l)) (omega arith))
+
+module _ {base check : List ℤ} {buffer : List ℕ} {n : ℕ} {out : List ℕ} (asked : AnswersPart base check buffer n out) {end : ℕ} (c : Cut (take n buffer) end) where
+  pub inside : end ≤ n
+  inside = omega (arith, c .within, length-take-le n buffer (asked .within))
+
+  -- The lines in front of the cut.
+  front : take end (take n buffer) ≡ take end buffer
+  front = take-take end n buffer inside
+
+  pub lines-within : length (sheetLines (take end buffer)) ≤ n
+  lines-within = omega (arith, lines-few (take end buffer), length-take-le end buffer (omega (arith, inside, asked .within)), inside)
+
+  pub answers-room : 11 * length (sheetLines (take end buffer)) ≤ length out
+  answers-room = omega (arith, lines-within, asked .room)
+
+  module _ {lines : ℕ} {base′ check′ : List ℤ} {out′ : List ℕ} (a : LinesAnswered base check (take end buffer) out lines base′ check′ out′) where
+    abbrev one : Answered
+    one = linesAnswered base check (take end buffer)
+
+    renders : Renders chained document01 base′ check′ (one .table)
+    renders = rw (a .base-is, a .check-is) (ended-renders (rules-render document01 base check (asked .whole)) document01-round-trip (take end buffer) out)
+
+    written : take (11 * lines) out′ ≡ one .bytes
+    written =
+        let many : length (one .bytes) ≡ 11 * lines = length-answers document01 (lastCell base) (readTable base check) (sheetLines (take end buffer)) ∙ ap (λ (k : ℕ). 11 * k) (sym (a .count-is)) in
+        rw (a .out-is, sets-eq (one .bytes) out 0 (omega (arith, answers-room, a .count-is)), zero-add) (take-at (one .bytes) _ (11 * lines) many)
+
+    module _ {held : ℕ} {buffer′ : List ℕ} (k : Carried buffer end n held buffer′) (rest : List ℕ) where
+      abbrev unfinished : List ℕ
+      unfinished = drop end (take n buffer)
+
+      split : take n buffer ++ rest ≡ take end buffer ++ (unfinished ++ rest)
+      split = ap (λ (b : List ℕ). b ++ rest) (sym (take-append-drop end (take n buffer)) ∙ ap (λ (b : List ℕ). b ++ unfinished) front) ∙ append-assoc (take end buffer) unfinished rest
+
+      -- The lines in front of the cut, and behind them those of the unfinished line and what follows.
+      cut-answered : linesAnswered base check (take n buffer ++ rest) ≡
+          behind (one .bytes) (answeredLines document01 (lastCell base) (one .table) (sheetLines (unfinished ++ rest)))
+      cut-answered = rw (split, lines-cut (take end buffer) (unfinished ++ rest) (rw front at (c .whole)))
+          (answered-append document01 (lastCell base) (readTable base check) (sheetLines (take end buffer)) (sheetLines (unfinished ++ rest)))
+
+      carried-is : take held buffer′ ≡ take TOO_LONG unfinished
+      carried-is = k .front ∙ ap (take TOO_LONG) (sym (rest-same buffer end n inside (asked .within)))
+
+      -- These are the lines of what is carried over and what follows.
+      carried-answered : answeredLines document01 (lastCell base) (one .table) (sheetLines (unfinished ++ rest)) ≡ linesAnswered base′ check′ (take held buffer′ ++ rest)
+      carried-answered =
+          let long : length base′ ≡ length base = ap length (a .base-is) ∙ base-length (one .table) (length base) in
+          shortened document01 (lastCell base) (one .table) unfinished rest (c .unfinished) ∙ rw (carried-is, long, ← one-table (one .table) renders)
+
+    pub part-answered : {held : ℕ} {buffer′ : List ℕ} → Carried buffer end n held buffer′ → PartAnswered base check buffer n lines held base′ check′ buffer′ out′
+    part-answered {held} {buffer′} k = record {
+      later = λ rest. cut-answered k rest ∙ ap₂ (λ (b : List ℕ) (x : Answered). behind b x) (sym written) (carried-answered k rest);
+      whole = render-rules document01 base′ check′ (one .table) renders;
+      few = omega (arith, lines-within, a .count-is);
+      short = omega (arith, k .count-is);
+    }
+
+-- ---- the whole sheet
+
+-- However a sheet is cut into parts, what is written are the answers to the whole.
+pub stream-whole : {base check : List ℤ} {carried sheet out : List ℕ} → Streamed base check carried sheet out → out ≡ linesAnswered base check (carried ++ sheet) .bytes
+stream-whole {base} {check} (ended {held = held}) = ap (λ (s : List ℕ). linesAnswered base check s .bytes) (sym (append-nil held))
+stream-whole {base} {check} (part {buffer = buffer} {out′ = out′} {n = n} {lines = lines} carried more sheet out is p s) =
+    ap (λ (b : List ℕ). take (11 * lines) out′ ++ b) (stream-whole s)
+    ∙ ap (λ (x : Answered). x .bytes) (sym (p .later sheet))
+    ∙ ap (λ (b : List ℕ). linesAnswered base check b .bytes) (ap (λ (b : List ℕ). b ++ sheet) is ∙ append-assoc carried more sheet)

@@ -1,0 +1,3 @@
+-- Laws of a sheet in parts.
+mod Places
+pub mod InParts
