@@ -14,7 +14,13 @@ pub struct Part {
 }
 
 // Answers the finished lines among the first n bytes of the buffer, and carries the rest over to its front.
-pub fn answer(base: &mut [i32], check: &mut [i32], buffer: &mut [u8], n: usize, answers: &mut [u8]) -> Part
+pub fn answer(
+    base: &mut [i32],
+    check: &mut [i32],
+    buffer: &mut [u8],
+    n: usize,
+    answers: &mut [u8],
+) -> Part
     requires { ⌜ AnswersPart (now base) (now check) (now buffer) n (now answers) ⌝ }
     ensures { λ r. ⌜ PartAnswered (now (base .entry)) (now (check .entry)) (now (buffer .entry)) n (r .lines) (r .held) (now (base .exit)) (now (check .exit)) (now (buffer .exit)) (now (answers .exit)) ⌝ }
 {

@@ -1,0 +1,2 @@
+-- What the program holds from turn to turn.
+pub mod Turns

@@ -1,0 +1,107 @@
+// The program run_sheet: answers a sheet from standard input to standard output, over a fresh table of 4,096 elements. It reads what is
+// there, answers the lines that are finished and writes their answers before it reads on; what it holds at a time is bounded, however
+// long the sheet is. A program has no exit status of its own: where the sheet could not be answered to its end, it says why in one line
+// on standard error, and otherwise nothing.
+use libc::STDERR_FILENO;
+use libc::STDIN_FILENO;
+use libc::STDOUT_FILENO;
+ghost use mathlib.Core.Bool.{false};
+ghost use mathlib.Core.Path.{_≡_};
+ghost use Rattle.run_sheet.specs.Turns.{Ready, Ends};
+
+// The elements of the table.
+const LENGTH: usize = 4096;
+
+// The bytes of the sheet that are held at a time: an unfinished line that was carried over, and what is read behind it.
+const PART: usize = 4096;
+
+// Room for as many answers as a part can have lines.
+const ROOM: usize = 45056;
+
+fn main() {
+    let mut base = [0i32; LENGTH];
+    let mut check = [0i32; LENGTH];
+    let mut buffer = [0u8; PART];
+    let mut answers = [0u8; ROOM];
+    index::fresh(&mut base, &mut check);
+    answer_all(&mut base, &mut check, &mut buffer, &mut answers);
+}
+
+// Answers part after part, until the sheet ends. A proved loop has to end, and nothing says that a sheet does: so the turns are counted
+// down, from a number that no run uses up.
+fn answer_all(base: &mut [i32], check: &mut [i32], buffer: &mut [u8], answers: &mut [u8])
+    requires { ⌜ Ready (now base) (now check) (now buffer) 0 (now answers) ⌝ }
+{
+    let mut held = 0;
+    let mut turns = u64::MAX;
+    while 0 < turns {
+        turns -= 1;
+        let turn = answer_part(base, check, buffer, held, answers);
+        if turn.over {
+            return;
+        }
+        held = turn.held;
+    }
+    say(b"run_sheet: the sheet has too many parts\n");
+}
+
+// Whether there is nothing more to answer; and how many bytes are carried over.
+pub struct Turn {
+    pub over: bool,
+    pub held: usize,
+}
+
+// Reads once, behind what is carried over, and answers the lines that are finished then; or the last one, where the sheet has ended.
+fn answer_part(
+    base: &mut [i32],
+    check: &mut [i32],
+    buffer: &mut [u8],
+    held: usize,
+    answers: &mut [u8],
+) -> Turn
+    requires { ⌜ Ready (now base) (now check) (now buffer) held (now answers) ⌝ }
+    ensures { λ r. ⌜ (r .over ≡ false → Ready (now (base .exit)) (now (check .exit)) (now (buffer .exit)) (r .held) (now (answers .exit))) ⌝ }
+{
+    let got = libc::read(STDIN_FILENO, &mut buffer[held..]);
+    if got < 0 {
+        say(b"run_sheet: standard input could not be read\n");
+        return Turn { over: true, held };
+    }
+    let n = held + io::count(got, &buffer[held..]);
+    if n == held {
+        answer_last(base, check, &buffer[..held], answers);
+        return Turn { over: true, held };
+    }
+    let part = parts::answer(base, check, buffer, n, answers);
+    let bytes = 11 * part.lines;
+    if !write(&answers[..bytes]) {
+        return Turn { over: true, held };
+    }
+    Turn {
+        over: false,
+        held: part.held,
+    }
+}
+
+// Answers what was carried over to the sheet's end: its last line, which has no line feed.
+fn answer_last(base: &mut [i32], check: &mut [i32], last: &[u8], answers: &mut [u8])
+    requires { ⌜ Ends (now base) (now check) (now last) (now answers) ⌝ }
+{
+    let lines = sheets::answer(base, check, last, answers);
+    let bytes = 11 * lines;
+    write(&answers[..bytes]);
+}
+
+// Writes answers; gives whether all of them were taken.
+fn write(bytes: &[u8]) -> bool {
+    let done = io::write_all(STDOUT_FILENO, bytes);
+    if !done {
+        say(b"run_sheet: standard output could not be written\n");
+    }
+    done
+}
+
+// Says why the sheet is not answered to its end.
+fn say(why: &[u8]) {
+    io::write_all(STDERR_FILENO, why);
+}
