@@ -40,7 +40,7 @@ answer-requires c κs =
 carry-requires : tie.Need-carry-requires
 carry-requires c κs =
     let k = c .before .before .before .before .before .before .before .before .before .before in
-    record { order = inside (entry k .pre) (k .cut .ensures); within = entry k .pre .within }
+    record { order = omega (arith, inside (entry k .pre) (k .cut .ensures)); within = omega (arith, entry k .pre .within) }
 
 same-length : tie.Need-same-length
 same-length c = search needs
