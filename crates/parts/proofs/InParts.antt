@@ -1,25 +1,20 @@
 -- A sheet in parts: a part is cut and carried over so that nothing is lost, and however the sheet is cut, its answers are the same.
 -- Assumes nothing.
-use mathlib.Core.Path.{_≡_, refl, sym, ap, ap₂, _∙_}
-use mathlib.Core.Logic.{_≢_, inl, inr, ⊎-elim}
-use mathlib.Core.Bool.{true}
-use mathlib.Core.List.{List, [], _∷_, _++_, append-assoc, append-nil}
-use Prim.Native.Nat.{ℕ, suc, _+_, _*_, _-_, _≤_, _<_, min}
-use native.Mathlib.Nat.{eq-or-lt-of-le, zero-add}
-use native.Mathlib.Numerals.{add-one, sub-one}
+use mathlib.Core.Path.{_≡_, sym, ap, ap₂, _∙_}
+use mathlib.Core.List.{List, _++_, append-assoc, append-nil}
+use Prim.Native.Nat.{ℕ, _+_, _*_, _-_, _≤_}
+use native.Mathlib.Nat.{zero-add}
 use native.Mathlib.Omega.{arith}
-use lib.ListN.{length, getD, take, drop, set, length-take, length-drop, length-set, take-append-drop, drop-of-length-le}
-use lib.Seq.{sets, sets-eq, length-sets, length-take-le, take-all, take-take, take-at, take-append-le, drop-append-le, getD-take, getD-drop, getD-set-same, getD-set-other, ext-getD}
+use lib.ListN.{length, take, drop, take-append-drop}
+use lib.Seq.{sets-eq, length-take-le, take-take, take-at}
 use lib.IntN.{ℤ}
-use Rattle.numbers.proofs.Cases.{same?, lt-or-ge}
 use Rattle.rules.specs.WhatTheIndexDoes.{document01, lastCell}
-use Rattle.rules.specs.ASoundTable.{sound}
-use Rattle.rules.specs.Listing.{LF}
 use Rattle.rules.specs.Rendering.{chained, readTable}
 use Rattle.rules.specs.ARun.{sheetLines, Answered, answeredLines}
 use Rattle.rules.proofs.Codes.{document01-round-trip}
+use Rattle.rules.proofs.Texts.{drop-take}
 use Rattle.tree.specs.Renders.{Renders}
-use Rattle.tree.specs.Sheets.{Unbroken, WholeLines, TOO_LONG}
+use Rattle.tree.specs.Sheets.{TOO_LONG}
 use Rattle.tree.proofs.Elements.{base-length}
 use Rattle.tree.proofs.SevenRules.{rules-render, render-rules, one-table}
 use Rattle.tree.proofs.SheetLines.{lines-few, lines-cut}
@@ -27,19 +22,9 @@ use Rattle.tree.proofs.LongLines.{shortened}
 use Rattle.tree.proofs.Runs.{answered-append, length-answers}
 use Rattle.tree.proofs.EndedRuns.{ended-renders}
 use Rattle.sheets.specs.Answering.{linesAnswered, LinesAnswered}
-use Rattle.parts.specs.Parts.{Cut, Carries, Carried, AnswersPart, behind, PartAnswered, Streamed, ended, part}
+use Rattle.parts.specs.Parts.{Cut, Carried, AnswersPart, behind, PartAnswered, Streamed, ended, part}
 
 -- ---- a part
-
--- What is behind the cut, in the part and in the buffer.
-rest-same : (l : List ℕ) (from to : ℕ) → from ≤ to → to ≤ length l → drop from (take to l) ≡ take (to - from) (drop from l)
-rest-same l from to order within =
-    let long : length (take to l) ≡ to = length-take-le to l within in
-    let left : length (drop from (take to l)) ≡ length (take to l) - from = length-drop from (take to l) in
-    sym (ap (λ (x : List ℕ). take (to - from) (drop from x)) (sym (take-append-drop to l))
-    ∙ ap (take (to - from)) (drop-append-le from (take to l) (drop to l) (omega arith))
-    ∙ take-append-le (to - from) (drop from (take to l)) (drop to l) (omega arith)
-    ∙ take-all (to - from) (drop from (take to l)) (omega arith))
 
 module _ {base check : List ℤ} {buffer : List ℕ} {n : ℕ} {out : List ℕ} (asked : AnswersPart base check buffer n out) {end : ℕ} (c : Cut (take n buffer) end) where
   pub inside : end ≤ n
@@ -81,7 +66,7 @@ module _ {base check : List ℤ} {buffer : List ℕ} {n : ℕ} {out : List ℕ} 
           (answered-append document01 (lastCell base) (readTable base check) (sheetLines (take end buffer)) (sheetLines (unfinished ++ rest)))
 
       carried-is : take held buffer′ ≡ take TOO_LONG unfinished
-      carried-is = k .front ∙ ap (take TOO_LONG) (sym (rest-same buffer end n inside (asked .within)))
+      carried-is = k .front ∙ ap (take TOO_LONG) (sym (drop-take end n buffer))
 
       -- These are the lines of what is carried over and what follows.
       carried-answered : answeredLines document01 (lastCell base) (one .table) (sheetLines (unfinished ++ rest)) ≡ linesAnswered base′ check′ (take held buffer′ ++ rest)

@@ -1,10 +1,11 @@
--- A text that is read from its front: its first byte, and the rest as the part of the slice behind it. Assumes nothing.
+-- A text that is read from its front: its first byte, and the rest as the part of the slice behind it; and a part of a part. Assumes
+-- nothing.
 use mathlib.Core.Path.{_≡_, refl, sym, ap}
 use mathlib.Core.List.{List, [], _∷_}
-use Prim.Native.Nat.{ℕ, _-_, _≤_, _<_}
+use Prim.Native.Nat.{ℕ, zero, suc, _-_, _≤_, _<_}
 use native.Mathlib.Omega.{arith}
 use lib.ListN.{length, getD, take, drop}
-use lib.Seq.{take-all}
+use lib.Seq.{take-all, take-nil}
 
 -- The part of a slice behind its first element.
 abbrev pub behind : List ℕ → List ℕ
@@ -17,3 +18,10 @@ first-and-rest (b ∷ bs) h = ap (λ (r : List ℕ). b ∷ r) (sym (take-all (le
 pub none-left : (text : List ℕ) → length text ≤ 0 → text ≡ []
 none-left [] h = refl
 none-left (b ∷ bs) h = absurd (omega arith)
+
+-- What is behind the first i of the first e.
+pub drop-take : (i e : ℕ) (text : List ℕ) → drop i (take e text) ≡ take (e - i) (drop i text)
+drop-take zero e text = let m : e - 0 ≡ e = omega arith in rw m
+drop-take (suc i) zero text = let m : 0 - suc i ≡ 0 = omega arith in rw m
+drop-take (suc i) (suc e) [] = sym (take-nil (suc e - suc i))
+drop-take (suc i) (suc e) (b ∷ text) = let m : suc e - suc i ≡ e - i = omega arith in rw m (drop-take i e text)

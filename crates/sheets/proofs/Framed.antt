@@ -2,22 +2,22 @@
 -- first line is no command. Assumes nothing.
 use mathlib.Core.Path.{_≡_, refl, sym, ap, ap₂, _∙_}
 use mathlib.Core.Logic.{_≢_, ⊎-elim}
-use mathlib.Core.Bool.{Bool, true, false, cond, _&&_, true≢false}
-use mathlib.Core.List.{List, [], _∷_, _++_}
-use mathlib.Core.Option.{Option, none}
+use mathlib.Core.Bool.{Bool, true, false, _&&_, true≢false}
+use mathlib.Core.List.{List, _∷_}
+use mathlib.Core.Option.{none}
 use Prim.Native.Nat.{ℕ, zero, suc, _+_, _*_, _-_, _≤_, _<_}
 use native.Mathlib.Nat.{eq-or-lt-of-le}
-use native.Mathlib.Numerals.{add-one}
 use native.Mathlib.Omega.{arith}
-use lib.ListN.{length, getD, take, drop, length-drop, take-append-drop}
-use lib.Seq.{length-take-le, take-append-le, drop-append-le, getD-take, take-add, drop-drop, take-all}
-use lib.Dec.{ltb, eqb}
-use borrow.Author.Tests.{eq-eqb, eqb-true, lt-ltb, le-ltb, ltb-true}
+use lib.ListN.{length, getD, take, drop}
+use lib.Seq.{length-take-le, getD-take, take-add, take-take, drop-drop}
+use lib.Dec.{eqb}
+use borrow.Author.Tests.{eq-eqb, eqb-true, lt-ltb, le-ltb}
 use Rattle.numbers.proofs.Cases.{lt-or-ge}
 use Rattle.rules.specs.Listing.{LF}
-use Rattle.rules.specs.ARun.{nibble, digits, readOn, field, pairs, commandOf, parsed}
+use Rattle.rules.specs.ARun.{digits, readOn, field, pairs, commandOf, parsed}
 use Rattle.rules.proofs.Choices.{branch, both, join}
 use Rattle.rules.proofs.Digits.{digits-append, digits-parts}
+use Rattle.rules.proofs.Texts.{drop-take}
 use Rattle.tree.specs.Sheets.{Unbroken, FirstLine}
 use Rattle.tree.proofs.SheetLines.{digits-unbroken}
 use Rattle.text.specs.Reading.{areDigits, NumberRead, CharactersRead}
@@ -41,18 +41,13 @@ unbroken-more rest i u h d k l =
 -- ---- a part of a part
 
 -- k bytes from i on, of the first e.
-part-same : (s : List ℕ) (e i k : ℕ) → e ≤ length s → i + k ≤ e → take k (drop i (take e s)) ≡ take k (drop i s)
-part-same s e i k h l =
-    let n : length (take e s) ≡ e = length-take-le e s h in
-    let m : length (drop i (take e s)) ≡ length (take e s) - i = length-drop i (take e s) in
-    sym (ap (λ (x : List ℕ). take k (drop i x)) (sym (take-append-drop e s))
-    ∙ ap (take k) (drop-append-le i (take e s) (drop e s) (omega arith))
-    ∙ take-append-le k (drop i (take e s)) (drop e s) (omega arith))
+part-same : (s : List ℕ) (e i k : ℕ) → i + k ≤ e → take k (drop i (take e s)) ≡ take k (drop i s)
+part-same s e i k l = ap (take k) (drop-take i e s) ∙ take-take k (e - i) (drop i s) (omega arith)
 
-module _ (s : List ℕ) (e : ℕ) (h : e ≤ length s) where
+module _ (s : List ℕ) (e : ℕ) where
   field-same : (i k : ℕ) → i + k ≤ e → field (take e s) i k ≡ field s i k
   unfolding field
-  field-same i k l = ap (readOn 0) (part-same s e i k h l)
+  field-same i k l = ap (readOn 0) (part-same s e i k l)
 
   pairs-same : (n i : ℕ) → i + 2 * n ≤ e → pairs (take e s) i n ≡ pairs s i n
   unfolding pairs
@@ -119,12 +114,12 @@ module _ (rest : List ℕ) where
         let w = end-is rest end (f .ends) .0 in
         let k : 4 + 2 * n ≡ end - 8 = omega arith in
         rw (
-          field-same rest end w 2 2 (omega arith),
+          field-same rest end 2 2 (omega arith),
           all-digits,
           eq-eqb (length (take end rest)) end (length-take-le end rest w),
-          field-same rest end w 0 2 (omega arith),
-          pairs-same rest end w n 4 (omega arith),
-          field-same rest end w (4 + 2 * n) 8 (omega arith),
+          field-same rest end 0 2 (omega arith),
+          pairs-same rest end n 4 (omega arith),
+          field-same rest end (4 + 2 * n) 8 (omega arith),
           k,
         )
 
@@ -138,9 +133,9 @@ module _ (rest : List ℕ) where
         let (d, s) = both (digits line) _ y in
         let w = first .within in
         let is : e ≡ 12 + 2 * field line 2 2 = sym (length-take-le e rest w) ∙ eqb-true (length line) _ s in
-        let same : field line 2 2 ≡ n = field-same rest e w 2 2 (omega arith) in
+        let same : field line 2 2 ≡ n = field-same rest e 2 2 (omega arith) in
         let at : e ≡ end = is ∙ ap (λ (m : ℕ). 12 + 2 * m) same in
-        let part : (i k : ℕ) → i + k ≤ e → areDigits rest i k ≡ true = λ i k l. sym (ap digits (part-same rest e i k w l)) ∙ digits-parts k (drop i line) (digits-parts i line d .1) .0 in
+        let part : (i k : ℕ) → i + k ≤ e → areDigits rest i k ≡ true = λ i k l. sym (ap digits (part-same rest e i k l)) ∙ digits-parts k (drop i line) (digits-parts i line d .1) .0 in
         record {
           long = omega arith;
           operation = part 0 2 (omega arith);

@@ -14,9 +14,8 @@ use borrow.Author.Tests.{le-leb, lt-leb}
 use Rattle.rules.specs.declared.Answer.{Answer}
 use Rattle.rules.specs.declared.Answer.the-variants.{Done, NoSpace}
 use Rattle.rules.specs.WhatTheIndexDoes.{document01, lastCell}
-use Rattle.rules.specs.Table.{Table}
 use Rattle.rules.specs.ASoundTable.{sound}
-use Rattle.rules.specs.Rendering.{chained, renderBase, renderCheck, readTable}
+use Rattle.rules.specs.Rendering.{chained, readTable}
 use Rattle.rules.specs.Commands.{Command, Outcome}
 use Rattle.rules.specs.ARun.{sheetLines, commandOf, parsed, answerBytes, Answered, answeredLine, answeredLines}
 use Rattle.rules.specs.Calls.{soundRun}
@@ -26,7 +25,6 @@ use Rattle.rules.proofs.Digits.{length-answer}
 use Rattle.rules.proofs.Lengths.{lengths-same}
 use Rattle.rules.proofs.Texts.{none-left}
 use Rattle.tree.specs.Renders.{Renders}
-use Rattle.tree.specs.Sheets.{FirstLine}
 use Rattle.tree.proofs.Elements.{base-length}
 use Rattle.tree.proofs.SevenRules.{rules-render, render-rules, one-table}
 use Rattle.tree.proofs.SheetLines.{first-line}

@@ -1,21 +1,20 @@
 -- Hexadecimal digits that are read: one more digit of a number, one more character of two. Assumes nothing.
-use mathlib.Core.Path.{_≡_, refl, sym, ap, ap₂, _∙_}
+use mathlib.Core.Path.{_≡_, sym, ap, ap₂, _∙_}
 use mathlib.Core.Logic.{_≢_}
-use mathlib.Core.Bool.{Bool, true, false, _&&_, true≢false}
-use mathlib.Core.List.{List, [], _∷_, _++_, append-assoc, append-nil}
+use mathlib.Core.Bool.{true, false, _&&_, true≢false}
+use mathlib.Core.List.{List, _∷_, _++_, append-assoc, append-nil}
 use Prim.Native.Nat.{ℕ, zero, suc, _+_, _*_, _-_, _≤_, _<_, _^_}
-use native.Mathlib.Nat.{add-zero, pow-suc, pow-le-pow-right}
+use native.Mathlib.Nat.{pow-suc, pow-le-pow-right}
 use native.Mathlib.Numerals.{add-one, sub-one}
 use native.Mathlib.Omega.{arith}
-use lib.ListN.{length, getD, take, drop, set, length-set}
+use lib.ListN.{length, getD, take, drop, set}
 use lib.Seq.{drop-cons, drop-drop, take-add, take-suc-set}
-use lib.Dec.{ltb}
-use borrow.Author.Tests.{le-ltb, lt-ltb}
+use borrow.Author.Tests.{lt-ltb}
 use Rattle.rules.specs.Ranges.{within}
 use Rattle.rules.specs.ARun.{nibble, digits, readOn, field, pairs}
 use Rattle.rules.proofs.Choices.{fails, passes}
-use Rattle.rules.proofs.Digits.{nibble-small, digits-append}
-use Rattle.text.specs.Reading.{areDigits, numberIn, NumberAt, NumberRead, CharactersAt, CharactersRead}
+use Rattle.rules.proofs.Digits.{digits-append}
+use Rattle.text.specs.Reading.{areDigits, NumberAt, NumberRead, CharactersRead}
 
 -- ---- a digit
 

@@ -1,6 +1,6 @@
 -- `answer` cuts the part behind its last line feed, answers the lines in front of the cut and carries what is behind it over. Assumes
 -- nothing.
-use mathlib.Core.Path.{_≡_, sym}
+use mathlib.Core.Path.{sym}
 use Prim.Native.Nat.{_≤_}
 use native.Mathlib.Omega.{arith}
 use lib.ListN.{length}

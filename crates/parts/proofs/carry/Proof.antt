@@ -1,10 +1,8 @@
 -- `carry` moves byte after byte to the front. The loop's invariant: so many are there, and those behind stand where they stood. The
 -- measure is the number of bytes left. Assumes nothing.
 use mathlib.Core.Path.{_≡_}
-use Prim.Native.Nat.{_-_, _≤_, min}
+use Prim.Native.Nat.{_-_, min}
 use native.Mathlib.Omega.{arith}
-use lib.ListN.{length}
-use borrow.Author.Needs.{needs}
 use Rattle.tree.specs.Sheets.{TOO_LONG}
 use Rattle.parts.proofs.Places.{Carrying, carrying-first, carrying-more, all-carried}
 use Rattle.parts.proofs.carry.Statement.{statement}

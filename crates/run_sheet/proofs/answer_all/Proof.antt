@@ -2,7 +2,6 @@
 -- of turns left. Assumes nothing.
 use mathlib.Core.Path.{_≡_, refl}
 use lib.ListN.{length}
-use native.Mathlib.Omega.{arith}
 use borrow.Author.Needs.{needs}
 use Rattle.run_sheet.specs.Turns.{Ready}
 use Rattle.run_sheet.proofs.answer_all.Statement.{statement}

@@ -1,5 +1,5 @@
 -- `main` makes a fresh table, and all is ready for the first turn. Assumes nothing.
-use mathlib.Core.Path.{_≡_, refl}
+use mathlib.Core.Path.{refl}
 use native.Mathlib.Omega.{arith}
 use Rattle.run_sheet.proofs.Beginning.{begins}
 use borrow.Author.Needs.{needs}

@@ -1,9 +1,9 @@
 -- `answer` reads line after line, carries it out and writes its answer to the next part of the buffer. The loop's invariant: what is still
 -- to be answered comes to the whole. The measure is the length of the rest. Assumes nothing.
-use mathlib.Core.Path.{_≡_, refl, sym, _∙_}
-use Prim.Native.Nat.{_+_, _*_, _-_, _≤_, _<_}
+use mathlib.Core.Path.{_≡_, refl, sym}
+use Prim.Native.Nat.{_-_}
 use native.Mathlib.Omega.{arith}
-use lib.ListN.{length, take, length-take, length-drop}
+use lib.ListN.{length, length-take, length-drop}
 use lib.Seq.{length-take-le}
 use borrow.Author.Needs.{needs}
 use Rattle.sheets.proofs.InTurn.{Still, still-first, check-long, still-last, room-left, still-more}

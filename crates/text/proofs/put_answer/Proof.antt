@@ -1,5 +1,5 @@
 -- `put_answer` writes the three parts of an answer one after the other. Assumes nothing.
-use lib.ListN.{length, length-set}
+use lib.ListN.{length-set}
 use native.Mathlib.Omega.{arith}
 use borrow.Author.Needs.{needs}
 use Rattle.text.proofs.Hexadecimal.{answer-parts}

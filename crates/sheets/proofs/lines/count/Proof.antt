@@ -2,9 +2,9 @@
 -- the rest are the sheet's. The measure is the rest's length. Assumes nothing.
 use mathlib.Core.Path.{_≡_, sym, _∙_}
 use mathlib.Core.Bool.{true, false}
-use Prim.Native.Nat.{_+_, _-_, _≤_}
+use Prim.Native.Nat.{_+_, _-_}
 use native.Mathlib.Omega.{arith}
-use lib.ListN.{length, take, drop, length-take, length-drop}
+use lib.ListN.{length, length-take, length-drop}
 use borrow.Author.Needs.{needs}
 use Rattle.sheets.specs.Counting.{feedsIn, isUnfinished}
 use Rattle.tree.proofs.SheetLines.{lines-few}

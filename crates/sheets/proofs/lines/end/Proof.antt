@@ -1,7 +1,6 @@
 -- `end` looks for the first line feed. The loop's invariant: there is none before the byte looked at. The measure is the number of
 -- bytes left. Assumes nothing.
-use mathlib.Core.Path.{_≡_}
-use Prim.Native.Nat.{_+_, _-_, _≤_}
+use Prim.Native.Nat.{_-_, _≤_}
 use native.Mathlib.Omega.{arith}
 use lib.ListN.{length, take}
 use borrow.Author.Needs.{needs}

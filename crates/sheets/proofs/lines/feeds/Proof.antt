@@ -1,6 +1,6 @@
 -- `feeds` counts line feeds byte by byte. The loop's invariant: those counted and those behind are all of them. The measure is the
 -- number of bytes left. Assumes nothing.
-use mathlib.Core.Path.{_≡_, refl, sym, _∙_}
+use mathlib.Core.Path.{_≡_}
 use mathlib.Core.Logic.{⊎-elim}
 use Prim.Native.Nat.{_+_, _-_, _≤_}
 use native.Mathlib.Omega.{arith}

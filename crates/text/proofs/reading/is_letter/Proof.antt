@@ -1,6 +1,5 @@
 -- `is_letter` is the test of its name. Assumes nothing.
 use mathlib.Core.Path.{sym}
-use borrow.Author.Needs.{needs}
 use borrow.Author.Tests.{le-leb}
 use Rattle.rules.specs.Ranges.{within}
 use Rattle.rules.proofs.Ranges.{below}
