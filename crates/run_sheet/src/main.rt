@@ -16,7 +16,7 @@ const LENGTH: usize = 4096;
 const PART: usize = 4096;
 
 // Room for as many answers as a part can have lines.
-const ROOM: usize = 45056;
+const ROOM: usize = 11 * PART;
 
 fn main() {
     let mut base = [0i32; LENGTH];
