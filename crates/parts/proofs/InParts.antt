@@ -1,7 +1,7 @@
 -- A sheet in parts: a part is cut and carried over so that nothing is lost, and however the sheet is cut, its answers are the same.
 -- Assumes nothing.
 use mathlib.Core.Path.{_≡_, sym, ap, ap₂, _∙_}
-use mathlib.Core.List.{List, _++_, append-assoc, append-nil}
+use mathlib.Core.List.{List, [], _++_, append-assoc, append-nil}
 use Prim.Native.Nat.{ℕ, _+_, _*_, _-_, _≤_}
 use native.Mathlib.Nat.{zero-add}
 use native.Mathlib.Omega.{arith}
@@ -17,7 +17,7 @@ use Rattle.tree.specs.Renders.{Renders}
 use Rattle.tree.specs.Sheets.{TOO_LONG}
 use Rattle.tree.proofs.Elements.{base-length}
 use Rattle.tree.proofs.SevenRules.{rules-render, render-rules, one-table}
-use Rattle.tree.proofs.SheetLines.{lines-few, lines-cut}
+use Rattle.tree.proofs.SheetLines.{unbroken-take, lines-few, lines-cut}
 use Rattle.tree.proofs.LongLines.{shortened}
 use Rattle.tree.proofs.Runs.{answered-append, length-answers}
 use Rattle.tree.proofs.EndedRuns.{ended-renders}
@@ -44,13 +44,16 @@ module _ {base check : List ℤ} {buffer : List ℕ} {n : ℕ} {out : List ℕ} 
     abbrev one : Answered
     one = linesAnswered base check (take end buffer)
 
+    count-is : lines ≡ length (sheetLines (take end buffer))
+    count-is = let e = a .answer in cc
+
     renders : Renders chained document01 base′ check′ (one .table)
     renders = rw (a .base-is, a .check-is) (ended-renders (rules-render document01 base check (asked .whole)) document01-round-trip (take end buffer) out)
 
     written : take (11 * lines) out′ ≡ one .bytes
     written =
-        let many : length (one .bytes) ≡ 11 * lines = length-answers document01 (lastCell base) (readTable base check) (sheetLines (take end buffer)) ∙ ap (λ (k : ℕ). 11 * k) (sym (a .count-is)) in
-        rw (a .out-is, sets-eq (one .bytes) out 0 (omega (arith, answers-room, a .count-is)), zero-add) (take-at (one .bytes) _ (11 * lines) many)
+        let many : length (one .bytes) ≡ 11 * lines = length-answers document01 (lastCell base) (readTable base check) (sheetLines (take end buffer)) ∙ ap (λ (k : ℕ). 11 * k) (sym count-is) in
+        rw (a .out-is, sets-eq (one .bytes) out 0 (omega (arith, answers-room, count-is)), zero-add) (take-at (one .bytes) _ (11 * lines) many)
 
     module _ {held : ℕ} {buffer′ : List ℕ} (k : Carried buffer end n held buffer′) (rest : List ℕ) where
       abbrev unfinished : List ℕ
@@ -62,7 +65,7 @@ module _ {base check : List ℤ} {buffer : List ℕ} {n : ℕ} {out : List ℕ} 
       -- The lines in front of the cut, and behind them those of the unfinished line and what follows.
       cut-answered : linesAnswered base check (take n buffer ++ rest) ≡
           behind (one .bytes) (answeredLines document01 (lastCell base) (one .table) (sheetLines (unfinished ++ rest)))
-      cut-answered = rw (split, lines-cut (take end buffer) (unfinished ++ rest) (rw front at (c .whole)))
+      cut-answered = rw (split, lines-cut (take end buffer) (unfinished ++ rest) (rw front at (c .finished)))
           (answered-append document01 (lastCell base) (readTable base check) (sheetLines (take end buffer)) (sheetLines (unfinished ++ rest)))
 
       carried-is : take held buffer′ ≡ take TOO_LONG unfinished
@@ -77,8 +80,9 @@ module _ {base check : List ℤ} {buffer : List ℕ} {n : ℕ} {out : List ℕ} 
     pub part-answered : {held : ℕ} {buffer′ : List ℕ} → Carried buffer end n held buffer′ → PartAnswered base check buffer n lines held base′ check′ buffer′ out′
     part-answered {held} {buffer′} k = record {
       later = λ rest. cut-answered k rest ∙ ap₂ (λ (b : List ℕ) (x : Answered). behind b x) (sym written) (carried-answered k rest);
+      unfinished = rw (carried-is k []) (unbroken-take TOO_LONG (drop end (take n buffer)) (c .unfinished));
       whole = render-rules document01 base′ check′ (one .table) renders;
-      few = omega (arith, lines-within, a .count-is);
+      few = omega (arith, lines-within, count-is);
       short = omega (arith, k .count-is);
     }
 

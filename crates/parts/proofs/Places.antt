@@ -26,10 +26,10 @@ module _ (part : List ℕ) where
         rw (getD-drop (end - 1) part (suc k) 0, e, ← getD-drop end part k 0) (u k (omega (arith, length-drop end part, length-drop (end - 1) part)))
 
     pub cut-feed : getD part (end - 1) 0 ≡ LF → Cut part end
-    cut-feed e = record { within = within; whole = inr (rw (length-take-le end part within, getD-take end part (end - 1) 0 (omega arith)) e); unfinished = u }
+    cut-feed e = record { within = within; finished = inr (rw (length-take-le end part within, getD-take end part (end - 1) 0 (omega arith)) e); unfinished = u }
 
   pub cut-none : (end : ℕ) → end ≤ 0 → Unbroken (drop end part) → Cut part 0
-  cut-none end h u = let z : end ≡ 0 = omega arith in record { within = omega arith; whole = inl refl; unfinished = rw z at u }
+  cut-none end h u = let z : end ≡ 0 = omega arith in record { within = omega arith; finished = inl refl; unfinished = rw z at u }
 
 -- ---- the bytes carried over
 

@@ -14,7 +14,7 @@ use Rattle.sheets.specs.Answering.{linesAnswered}
 -- The first r bytes end with one of the part's lines, and no line ends behind them.
 pub record Cut (part : List ℕ) (r : ℕ) : Type 0 where
   pub within : r ≤ length part
-  pub whole : WholeLines (take r part)
+  pub finished : WholeLines (take r part)
   pub unfinished : Unbroken (drop r part)
 
 -- That the bytes from one place up to another be carried over to the front.
@@ -38,9 +38,11 @@ abbrev pub behind : List ℕ → Answered → Answered
 behind bytes a = record { bytes = bytes ++ a .bytes; table = a .table }
 
 -- Whatever follows, the answers to the part with it are those written now, and behind them the answers to what is carried over with it,
--- on the table that is left. That table is sound, and a line that is too long is carried over no further.
+-- on the table that is left. No line is kept back that is finished; the table is sound; and a line that is too long is carried over no
+-- further.
 pub record PartAnswered (base check : List ℤ) (buffer : List ℕ) (n lines held : ℕ) (base′ check′ : List ℤ) (buffer′ out′ : List ℕ) : Type 0 where
   pub later : (rest : List ℕ) → linesAnswered base check (take n buffer ++ rest) ≡ behind (take (11 * lines) out′) (linesAnswered base′ check′ (take held buffer′ ++ rest))
+  pub unfinished : Unbroken (take held buffer′)
   pub whole : sound document01 base′ check′ ≡ true
   pub few : lines ≤ n
   pub short : held ≤ TOO_LONG

@@ -2,16 +2,14 @@
 use mathlib.Core.Path.{_≡_, refl, sym, ap, _∙_}
 use mathlib.Core.Bool.{Bool, true, false, _&&_}
 use mathlib.Core.List.{List, [], _∷_, _++_}
-use Prim.Native.Nat.{ℕ, zero, suc, _*_, _/_, _≤_}
+use Prim.Native.Nat.{ℕ, zero, suc, _*_, _/_}
 use native.Mathlib.Omega.{arith}
 use lib.ListN.{length, take, drop, length-append, take-append-drop}
 use lib.Dec.{ltb}
 use Rattle.rules.specs.declared.Answer.{Answer}
-use Rattle.rules.specs.Ranges.{within}
 use Rattle.rules.specs.Listing.{hex, hexes}
 use Rattle.rules.specs.ARun.{nibble, digits, answerBytes}
-use Rattle.rules.proofs.Choices.{branch, both}
-use Rattle.rules.proofs.Ranges.{within-is}
+use Rattle.rules.proofs.Choices.{both}
 
 -- ---- how long
 
@@ -30,11 +28,6 @@ unfolding answerBytes
 length-answer a = simp (length-append, length-hex)
 
 -- ---- digits
-
-pub nibble-small : (b : ℕ) → nibble b ≤ 16
-unfolding nibble
-nibble-small b = branch (λ n. n ≤ 16) (within 48 57 b) (λ y. omega (arith, within-is 48 57 b y))
-    (λ _. branch (λ n. n ≤ 16) (within 97 102 b) (λ y. omega (arith, within-is 97 102 b y)) (λ _. omega arith))
 
 pub digits-append : (xs ys : List ℕ) → digits (xs ++ ys) ≡ (digits xs && digits ys)
 unfolding digits

@@ -1,6 +1,6 @@
 -- The eight calls: for each, one total function from what is lent and given at entry to the answer and every element and byte
 -- at exit, refusals included. The public contracts cite these, at document 01's kind of table and profile.
-use Prim.Native.Nat.{ℕ, _*_}
+use Prim.Native.Nat.{ℕ, _*_, _-_}
 use mathlib.Core.Bool.{cond}
 use mathlib.Core.List.{List}
 use lib.ListN.{length}
@@ -14,6 +14,7 @@ use Rattle.rules.specs.WhatTheIndexDoes.{Profile, isIdentifier, rightLen
 use Rattle.rules.specs.ASoundTable.{freshBase, freshCheck}
 use Rattle.rules.specs.Finding.{rowFound}
 use Rattle.rules.specs.Listing.{listing}
+use Rattle.rules.specs.Table.{Table}
 use Rattle.rules.specs.Commands.{Command, insert, delete, find, compact, Outcome, carriedOut, answered}
 use Rattle.rules.specs.Rendering.{Kind, renderBase, renderCheck, readCells, readTable}
 use Rattle.rules.specs.ARun.{sheetLines, answeredLines}
@@ -43,6 +44,17 @@ unwritten out a = record { answer = a; out = out }
 -- A refused call changes no element.
 abbrev pub unchanged : List ℤ → List ℤ → Answer → Edited
 unchanged base check a = record { answer = a; base = base; check = check }
+
+-- What a run leaves where it is done, of arrays of k elements that hold the table t: the lines are answered in turn.
+abbrev pub ended : Kind → Profile → ℕ → Table → List ℕ → List ℕ → Ran
+ended K P k t sheet out =
+    let end = answeredLines P (k - 1) t (sheetLines sheet) in
+    record {
+      answer = Done (length (sheetLines sheet));
+      base = renderBase k (end .table);
+      check = renderCheck K P k (end .table);
+      out = sets out 0 (end .bytes);
+    }
 
 -- A refused run changes no element and no byte.
 abbrev pub untouched : List ℤ → List ℤ → List ℕ → Answer → Ran
@@ -120,16 +132,8 @@ module _ (K : Kind) (P : Profile) (base check : List ℤ) where
   -- On a table known to be sound, a run: NO SPACE for the whole; or the lines in turn, done with the number of them.
   unfoldable pub soundRun : List ℕ → List ℕ → Ran
   soundRun sheet out =
-      let n = length base in
-      let lines = sheetLines sheet in
-      let end = answeredLines P (lastCell base) (readTable base check) lines in
-      let done : Ran = record {
-        answer = Done (length lines);
-        base = renderBase n (end .table);
-        check = renderCheck K P n (end .table);
-        out = sets out 0 (end .bytes);
-      } in
-      cond (leb (11 * length lines) (length out)) done (untouched base check out NoSpace)
+      let done = ended K P (length base) (readTable base check) sheet out in
+      cond (leb (11 * length (sheetLines sheet)) (length out)) done (untouched base check out NoSpace)
 
   -- run: SIZE, DAMAGED, then NO SPACE or done.
   unfoldable pub runCall : List ℕ → List ℕ → Ran

@@ -1,2 +1,3 @@
--- Where the program begins.
+-- Where the program begins, and what is known of its turns.
 mod Beginning
+mod Turning

@@ -5,9 +5,9 @@
 use libc::STDERR_FILENO;
 use libc::STDIN_FILENO;
 use libc::STDOUT_FILENO;
-ghost use mathlib.Core.Bool.{false};
-ghost use mathlib.Core.Path.{_≡_};
-ghost use Rattle.run_sheet.specs.Turns.{Ready, Ends};
+ghost use Prim.Native.Nat.{_*_, _≤_};
+ghost use lib.ListN.{length};
+ghost use Rattle.run_sheet.specs.Turns.{Ready, Taken};
 
 // The elements of the table.
 const LENGTH: usize = 4096;
@@ -27,8 +27,8 @@ fn main() {
     answer_all(&mut base, &mut check, &mut buffer, &mut answers);
 }
 
-// Answers part after part, until the sheet ends. A proved loop has to end, and nothing says that a sheet does: so the turns are counted
-// down, from a number that no run uses up.
+// Has part after part answered and writes the answers, until the sheet ends. A proved loop has to end, and nothing says that a sheet
+// does: so the turns are counted down, from a number that no run uses up.
 fn answer_all(base: &mut [i32], check: &mut [i32], buffer: &mut [u8], answers: &mut [u8])
     requires { ⌜ Ready (now base) (now check) (now buffer) 0 (now answers) ⌝ }
 {
@@ -37,21 +37,38 @@ fn answer_all(base: &mut [i32], check: &mut [i32], buffer: &mut [u8], answers: &
     while 0 < turns {
         turns -= 1;
         let turn = answer_part(base, check, buffer, held, answers);
-        if turn.over {
-            return;
+        match turn {
+            Turn::Part(lines, carried) => {
+                if !write(answers, lines) {
+                    return;
+                }
+                held = carried;
+            }
+            Turn::Last(lines) => {
+                write(answers, lines);
+                return;
+            }
+            Turn::Failed => {
+                say(b"run_sheet: standard input could not be read\n");
+                return;
+            }
         }
-        held = turn.held;
     }
     say(b"run_sheet: the sheet has too many parts\n");
 }
 
-// Whether there is nothing more to answer; and how many bytes are carried over.
-pub struct Turn {
-    pub over: bool,
-    pub held: usize,
+// What came of a turn.
+pub enum Turn {
+    // So many lines were answered, and so many bytes are carried over.
+    Part(usize, usize),
+    // The sheet has ended; so many lines were answered, at most the one without a line feed.
+    Last(usize),
+    // The sheet could not be read.
+    Failed,
 }
 
-// Reads once, behind what is carried over, and answers the lines that are finished then; or the last one, where the sheet has ended.
+// Reads once, behind what is carried over, and answers the lines that are finished then; or what is carried over, where the sheet has
+// ended.
 fn answer_part(
     base: &mut [i32],
     check: &mut [i32],
@@ -60,41 +77,26 @@ fn answer_part(
     answers: &mut [u8],
 ) -> Turn
     requires { ⌜ Ready (now base) (now check) (now buffer) held (now answers) ⌝ }
-    ensures { λ r. ⌜ (r .over ≡ false → Ready (now (base .exit)) (now (check .exit)) (now (buffer .exit)) (r .held) (now (answers .exit))) ⌝ }
+    ensures { λ r. ⌜ Taken (now (base .entry)) (now (check .entry)) (now (buffer .entry)) held (now (answers .entry)) (now (base .exit)) (now (check .exit)) (now (buffer .exit)) (now (answers .exit)) r ⌝ }
 {
     let got = libc::read(STDIN_FILENO, &mut buffer[held..]);
     if got < 0 {
-        say(b"run_sheet: standard input could not be read\n");
-        return Turn { over: true, held };
+        return Turn::Failed;
     }
     let n = held + io::count(got, &buffer[held..]);
     if n == held {
-        answer_last(base, check, &buffer[..held], answers);
-        return Turn { over: true, held };
+        return Turn::Last(sheets::answer(base, check, &buffer[..held], answers));
     }
     let part = parts::answer(base, check, buffer, n, answers);
-    let bytes = 11 * part.lines;
-    if !write(&answers[..bytes]) {
-        return Turn { over: true, held };
-    }
-    Turn {
-        over: false,
-        held: part.held,
-    }
+    Turn::Part(part.lines, part.held)
 }
 
-// Answers what was carried over to the sheet's end: its last line, which has no line feed.
-fn answer_last(base: &mut [i32], check: &mut [i32], last: &[u8], answers: &mut [u8])
-    requires { ⌜ Ends (now base) (now check) (now last) (now answers) ⌝ }
+// Writes so many answers; gives whether all of them were taken, and says so where they were not.
+fn write(answers: &[u8], lines: usize) -> bool
+    requires { ⌜ 11 * lines ≤ length (now answers) ⌝ }
 {
-    let lines = sheets::answer(base, check, last, answers);
     let bytes = 11 * lines;
-    write(&answers[..bytes]);
-}
-
-// Writes answers; gives whether all of them were taken.
-fn write(bytes: &[u8]) -> bool {
-    let done = io::write_all(STDOUT_FILENO, bytes);
+    let done = io::write_all(STDOUT_FILENO, &answers[..bytes]);
     if !done {
         say(b"run_sheet: standard output could not be written\n");
     }

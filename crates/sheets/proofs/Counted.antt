@@ -1,20 +1,21 @@
 -- A sheet has a line for each line feed, and one more where the last has none. Assumes nothing.
 use mathlib.Core.Path.{_≡_, refl, sym, ap, _∙_}
-use mathlib.Core.Logic.{_≢_}
+use mathlib.Core.Logic.{_≢_, ⊎-elim}
 use mathlib.Core.Bool.{Bool, true, false, cond, not}
 use mathlib.Core.List.{List, [], _∷_, _++_}
-use Prim.Native.Nat.{ℕ, suc, _+_, _-_, _≤_, _<_}
+use Prim.Native.Nat.{ℕ, suc, _+_, _-_, _≤_, _<_, min}
 use native.Mathlib.Numerals.{add-one}
 use native.Mathlib.Omega.{arith}
 use lib.ListN.{length, getD, take, drop, length-drop, take-append-drop, drop-of-length-le}
-use lib.Seq.{drop-cons, take-all}
+use lib.Seq.{drop-cons, take-all, drop-length}
 use lib.Dec.{eqb}
 use borrow.Author.Tests.{eq-eqb, ne-eqb, lt-ltb}
+use Rattle.numbers.proofs.Cases.{lt-or-ge}
 use Rattle.rules.specs.Listing.{LF}
 use Rattle.rules.specs.ARun.{joined, sheetLines}
 use Rattle.rules.proofs.Choices.{branch, branch₂}
 use Rattle.tree.proofs.SheetLines.{lines-some}
-use Rattle.sheets.specs.Counting.{feedsIn, isUnfinished, Next}
+use Rattle.sheets.specs.Counting.{feedsIn, isUnfinished}
 
 -- ---- line feeds
 
@@ -87,9 +88,9 @@ lines-counted (b ∷ c ∷ bs) = rw (last-same b c bs) (lines-more b (c ∷ bs) 
 
 -- ---- from line to line
 
-module _ (rest : List ℕ) (end : ℕ) where
-  pub next-feed : end < length rest → Next rest end (end + 1)
-  next-feed h = record { within = omega arith; some = λ _. omega arith; past = rw add-one }
-
-  pub next-none : end ≤ length rest → length rest ≤ end → Next rest end end
-  next-none w h = record { within = w; some = λ s. omega arith; past = rw (drop-of-length-le rest {i = end} h, drop-of-length-le rest {i = suc end} (omega arith)) }
+-- What is behind a line's end is what is behind its line feed, which is not past the end of all.
+pub next-line : (rest : List ℕ) (end : ℕ) → drop (min (suc end) (length rest)) rest ≡ drop (suc end) rest
+next-line rest end = ⊎-elim
+    (λ (h : end < length rest). let m : min (suc end) (length rest) ≡ suc end = omega arith in rw m)
+    (λ (h : length rest ≤ end). let m : min (suc end) (length rest) ≡ length rest = omega arith in rw (m, drop-length, drop-of-length-le rest {i = suc end} (omega arith)))
+    (lt-or-ge end (length rest))

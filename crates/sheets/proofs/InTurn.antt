@@ -4,7 +4,7 @@ use mathlib.Core.Path.{_≡_, refl, sym, ap, _∙_}
 use mathlib.Core.Bool.{true}
 use mathlib.Core.List.{List, [], _∷_, _++_}
 use mathlib.Core.Option.{Option}
-use Prim.Native.Nat.{ℕ, suc, _+_, _*_, _-_, _/_, _≤_, _<_}
+use Prim.Native.Nat.{ℕ, suc, _+_, _*_, _-_, _/_, _≤_, _<_, min}
 use native.Mathlib.Omega.{arith}
 use lib.ListN.{length, take, drop, length-drop}
 use lib.Seq.{sets, length-sets, length-take-le, take-all}
@@ -32,8 +32,8 @@ use Rattle.tree.proofs.Runs.{line-kept}
 use Rattle.tree.proofs.SingleCalls.{chained-audited, line-rendered}
 use Rattle.tree.proofs.EndedRuns.{again-renders}
 use Rattle.text.proofs.Sets.{sets-then, sets-part}
-use Rattle.sheets.specs.Counting.{Next}
 use Rattle.sheets.specs.Reading.{FieldsRead}
+use Rattle.sheets.proofs.Counted.{next-line}
 use Rattle.sheets.specs.Answering.{lineEdit, fieldsEdit, AnswersLines, linesAnswered, LinesAnswered}
 
 lengths-sound : (base check : List ℤ) → sound document01 base check ≡ true → length base ≡ length check
@@ -97,7 +97,7 @@ module _ (base₀ check₀ : List ℤ) (sheet out₀ : List ℕ) where
           let t : readTable base check ≡ linesAnswered base₀ check₀ sheet .table = rw none at (s .table-left) in
           let d = rules-render document01 base check (s .whole) in
           record {
-            count-is = omega (arith, rw none at (s .lines-left));
+            answer = ap Done (omega (arith, rw none at (s .lines-left)));
             base-is = d .base-is ∙ rw (s .long, t);
             check-is = d .check-is ∙ rw (s .long, t);
             out-is = rw none at (s .bytes-left);
@@ -117,10 +117,10 @@ module _ (base₀ check₀ : List ℤ) (sheet out₀ : List ℕ) where
           on : linesAnswered base check rest ≡ record { bytes = answerBytes r ++ linesAnswered base′ check′ (drop (suc end) rest) .bytes; table = linesAnswered base′ check′ (drop (suc end) rest) .table }
           on = lines-on base check (s .whole) _ e rest (take end rest) (drop (suc end) rest) split command-is
 
-          pub still-more : {part : List ℕ} {next : ℕ} → Next rest end next → part ≡ sets (midOf (11 * count) (length out - 11 * count) out) 0 (answerBytes r) →
+          pub still-more : {part : List ℕ} {next : ℕ} → next ≡ min (suc end) (length rest) → part ≡ sets (midOf (11 * count) (length out - 11 * count) out) 0 (answerBytes r) →
               Still base′ check′ (putMid (11 * count) (length out - 11 * count) out part) (take (length rest - next) (drop next rest)) (count + 1)
           still-more {part} {next} n is =
-              let more : take (length rest - next) (drop next rest) ≡ drop (suc end) rest = take-all (length rest - next) (drop next rest) (rw length-drop (omega arith)) ∙ n .past in
+              let more : take (length rest - next) (drop next rest) ≡ drop (suc end) rest = take-all (length rest - next) (drop next rest) (rw length-drop (omega arith)) ∙ rw n (next-line rest end) in
               let bytes : length (answerBytes r) ≡ 11 = length-answer r in
               let out-is : putMid (11 * count) (length out - 11 * count) out part ≡ sets out (11 * count) (answerBytes r) = rw is (sets-part out (11 * count) (answerBytes r) (omega (arith, room-left))) in
               rw (more, out-is) (record {
@@ -147,4 +147,4 @@ module _ (base check : List ℤ) (sheet out : List ℕ) where
       LinesAnswered base check sheet out r base′ check′ out′ → ran (Done r) base′ check′ out′
   unfolding soundRun
   all-answered h a = rw (le-leb (11 * length (sheetLines sheet)) (length out) (omega arith))
-      (record { answer = ap Done (a .count-is); base-is = a .base-is; check-is = a .check-is; out-is = a .out-is })
+      a

@@ -5,14 +5,15 @@ use mathlib.Core.List.{List}
 use mathlib.Core.Option.{Option}
 use Prim.Native.Nat.{ℕ, _*_, _≤_, _<_}
 use lib.ListN.{length}
-use lib.Seq.{sets}
 use lib.IntN.{ℤ}
+use Rattle.rules.specs.declared.Answer.the-variants.{Done}
 use Rattle.rules.specs.WhatTheIndexDoes.{document01, lastCell}
 use Rattle.rules.specs.ASoundTable.{sound}
-use Rattle.rules.specs.Rendering.{chained, renderBase, renderCheck, readTable}
+use Rattle.rules.specs.Rendering.{chained, readTable}
 use Rattle.rules.specs.Commands.{Command}
 use Rattle.rules.specs.ARun.{sheetLines, commandOf, Answered, answeredLine, answeredLines}
-use Rattle.rules.specs.Calls.{Edited, stored}
+use Rattle.rules.specs.Calls.{Edited, ended, stored}
+use Rattle.rules.specs.Promised.{Runs}
 
 -- ---- one line
 
@@ -41,9 +42,6 @@ pub record AnswersLines (base check : List ℤ) (sheet out : List ℕ) : Type 0 
 abbrev pub linesAnswered : List ℤ → List ℤ → List ℕ → Answered
 linesAnswered base check sheet = answeredLines document01 (lastCell base) (readTable base check) (sheetLines sheet)
 
--- The number of lines, the rendering of the table after them, and each answer in the buffer.
-pub record LinesAnswered (base check : List ℤ) (sheet out : List ℕ) (r : ℕ) (base′ check′ : List ℤ) (out′ : List ℕ) : Type 0 where
-  pub count-is : r ≡ length (sheetLines sheet)
-  pub base-is : base′ ≡ renderBase (length base) (linesAnswered base check sheet .table)
-  pub check-is : check′ ≡ renderCheck chained document01 (length base) (linesAnswered base check sheet .table)
-  pub out-is : out′ ≡ sets out 0 (linesAnswered base check sheet .bytes)
+-- What a run leaves where it is done, with the number of lines.
+abbrev pub LinesAnswered : List ℤ → List ℤ → List ℕ → List ℕ → ℕ → List ℤ → List ℤ → List ℕ → Type 0
+LinesAnswered base check sheet out r = Runs (ended chained document01 (length base) (readTable base check) sheet out) (Done r)

@@ -20,7 +20,7 @@ pub record FieldsRead (rest key : List ℕ) (operation len number end : ℕ) : T
   pub short : len ≤ length key
   pub small : number < 4294967296
 
--- The first line ends there; of a line that is no command all fields are 0.
+-- The first line ends there, and all fields are 0.
 pub record NoFields (rest : List ℕ) (operation len number end : ℕ) : Type 0 where
   pub first : FirstLine rest end
   pub operation-none : operation ≡ 0

@@ -14,10 +14,10 @@ ghost use Rattle.rules.specs.Promised.{Edits, Runs};
 ghost use Rattle.sheets.specs.Answering.{AnswersLines, LinesAnswered, CarriesOut, lineEdit, fieldsEdit};
 
 // A sheet's lines: how many there are, and where one ends.
-pub mod lines;
+mod lines;
 
 // What a line says.
-pub mod reading;
+mod reading;
 
 // Answers the sheet's lines: NO SPACE for the whole, or done with the number of them.
 pub fn run(base: &mut [i32], check: &mut [i32], sheet: &[u8], answers: &mut [u8]) -> Answer

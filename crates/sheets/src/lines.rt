@@ -1,10 +1,10 @@
 // A sheet's lines. A line ends at a line feed or at the sheet's end; no line follows a final line feed.
 ghost use mathlib.Core.Path.{_≡_};
-ghost use Prim.Native.Nat.{_≤_};
+ghost use Prim.Native.Nat.{suc, _≤_, min};
 ghost use lib.ListN.{length};
 ghost use Rattle.rules.specs.ARun.{sheetLines};
 ghost use Rattle.tree.specs.Sheets.{FirstLine};
-ghost use Rattle.sheets.specs.Counting.{feedsIn, isUnfinished, Next};
+ghost use Rattle.sheets.specs.Counting.{feedsIn, isUnfinished};
 
 // So many bytes are counted at a time.
 const BLOCK: usize = 240;
@@ -63,10 +63,10 @@ pub fn end(rest: &[u8]) -> usize
     i
 }
 
-// Where the line behind one that ends there begins.
+// Where the line behind one that ends there begins: past its line feed, if it has one.
 pub fn next(rest: &[u8], end: usize) -> usize
     requires { ⌜ end ≤ length (now rest) ⌝ }
-    ensures { λ r. ⌜ Next (now (rest .entry)) end r ⌝ }
+    ensures { λ r. ⌜ r ≡ min (suc end) (length (now (rest .entry))) ⌝ }
 {
     if end < rest.len() { end + 1 } else { end }
 }

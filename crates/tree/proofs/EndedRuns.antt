@@ -11,13 +11,12 @@ use lib.Seq.{sets, sets-eq, take-at, drop-at, drop-drop}
 use lib.IntN.{ℤ}
 use lib.Dec.{leb}
 use borrow.Author.Tests.{le-leb, leb-true, eq-eqb}
-use Rattle.rules.specs.declared.Answer.the-variants.{Done}
 use Rattle.rules.specs.Answers.{isDone}
 use Rattle.rules.specs.WhatTheIndexDoes.{Profile, RoundTrip, rightLengths, lastCell}
 use Rattle.rules.specs.Table.{Table}
 use Rattle.rules.specs.Rendering.{Kind, renderBase, renderCheck}
 use Rattle.rules.specs.ARun.{sheetLines, answeredLines}
-use Rattle.rules.specs.Calls.{Ran, soundRun, runCall}
+use Rattle.rules.specs.Calls.{Ran, ended, soundRun, runCall}
 use Rattle.rules.proofs.Choices.{branch, join}
 use Rattle.rules.proofs.Lengths.{lengths-within}
 use Rattle.rules.proofs.Ranges.{inside}
@@ -29,17 +28,6 @@ use Rattle.tree.proofs.SevenRules.{one-table}
 use Rattle.tree.proofs.SheetLines.{lines-cut}
 use Rattle.tree.proofs.Runs.{answered-append, length-answers, lines-kept}
 use Rattle.tree.proofs.SingleCalls.{Audited}
-
--- What a run leaves, where it is done, of arrays of k elements that hold the table t.
-abbrev pub ended : Kind → Profile → ℕ → Table → List ℕ → List ℕ → Ran
-ended K P k t sheet out =
-    let end = answeredLines P (k - 1) t (sheetLines sheet) in
-    record {
-      answer = Done (length (sheetLines sheet));
-      base = renderBase k (end .table);
-      check = renderCheck K P k (end .table);
-      out = sets out 0 (end .bytes);
-    }
 
 -- ---- the table at the end
 

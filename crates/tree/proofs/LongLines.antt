@@ -8,7 +8,7 @@ use mathlib.Core.Option.{none}
 use Prim.Native.Nat.{ℕ, _+_, _*_, _≤_, _<_}
 use native.Mathlib.Omega.{arith}
 use lib.ListN.{length, take, drop, length-append}
-use lib.Seq.{length-take-le, take-all, getD-take}
+use lib.Seq.{length-take-le, take-all}
 use lib.Dec.{ltb, eqb}
 use borrow.Author.Tests.{ltb-true, eqb-true}
 use Rattle.numbers.proofs.Cases.{lt-or-ge}
@@ -18,7 +18,7 @@ use Rattle.rules.specs.ARun.{joined, sheetLines, nibble, digits, readOn, field,
 use Rattle.rules.proofs.Choices.{branch, both}
 use Rattle.rules.proofs.Digits.{digits-parts}
 use Rattle.tree.specs.Sheets.{Unbroken, TOO_LONG}
-use Rattle.tree.proofs.SheetLines.{lines-joined, unbroken-tail}
+use Rattle.tree.proofs.SheetLines.{lines-joined, unbroken-tail, unbroken-take}
 
 -- ---- two digits
 
@@ -68,11 +68,6 @@ lines-infront (b ∷ []) rest h u = lines-joined b rest (u 0 (omega arith)) ∙ 
 lines-infront (b ∷ c ∷ p) rest h u = lines-joined b (c ∷ p ++ rest) (u 0 (omega arith)) ∙
     ap (joined b) (lines-infront (c ∷ p) rest (omega arith) (unbroken-tail b (c ∷ p) u)) ∙ infront-more b c p (sheetLines rest)
 
-unbroken-take : (n : ℕ) (p : List ℕ) → n ≤ length p → Unbroken p → Unbroken (take n p)
-unbroken-take n p h u k l =
-    let s : k < n = omega (arith, length-take-le n p h) in
-    rw (getD-take n p k 0 s) (u k (omega arith))
-
 module _ (P : Profile) (last : ℕ) (t : Table) where
   long-infront : (p q : List ℕ) (ls : List (List ℕ)) → TOO_LONG ≤ length p → TOO_LONG ≤ length q →
       answeredLines P last t (infront p ls) ≡ answeredLines P last t (infront q ls)
@@ -90,5 +85,5 @@ module _ (P : Profile) (last : ℕ) (t : Table) where
       long h =
           let q = take TOO_LONG p in
           let n = length-take-le TOO_LONG p h in
-          rw (lines-infront p rest (omega arith) u, lines-infront q rest (omega arith) (unbroken-take TOO_LONG p h u))
+          rw (lines-infront p rest (omega arith) u, lines-infront q rest (omega arith) (unbroken-take TOO_LONG p u))
           (long-infront p q (sheetLines rest) h (omega arith))

@@ -7,8 +7,8 @@ use Prim.Native.Nat.{ℕ, zero, suc, _+_, _-_, _≤_, _<_}
 use native.Mathlib.Nat.{eq-or-lt-of-le}
 use native.Mathlib.Numerals.{sub-one}
 use native.Mathlib.Omega.{arith}
-use lib.ListN.{length, getD, take, drop, take-append-drop, drop-of-length-le}
-use lib.Seq.{drop-cons, take-all}
+use lib.ListN.{length, getD, take, drop, take-append-drop, drop-of-length-le, length-take}
+use lib.Seq.{drop-cons, take-all, getD-take}
 use lib.Dec.{ltb, eqb}
 use borrow.Author.Tests.{eq-eqb, ne-eqb}
 use Rattle.rules.specs.Listing.{LF}
@@ -29,6 +29,12 @@ lines-joined b bs d = rw (ne-eqb b LF d)
 
 pub unbroken-tail : (b : ℕ) (l : List ℕ) → Unbroken (b ∷ l) → Unbroken l
 unbroken-tail b l u k h = u (suc k) (omega arith)
+
+-- The first n bytes.
+pub unbroken-take : (n : ℕ) (p : List ℕ) → Unbroken p → Unbroken (take n p)
+unbroken-take n p u k l =
+    let s : (k < n) × (k < length p) = (omega (arith, length-take n p), omega (arith, length-take n p)) in
+    rw (getD-take n p k 0 (s .0)) (u k (s .1))
 
 -- A line feed is no digit.
 pub digits-unbroken : (l : List ℕ) → digits l ≡ true → Unbroken l

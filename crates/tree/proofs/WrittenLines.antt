@@ -18,7 +18,7 @@ use Rattle.rules.specs.ARun.{sheetLines, nibble, digits, readOn, field, pairs, 
 use Rattle.rules.proofs.Choices.{join}
 use Rattle.rules.proofs.Ranges.{inside, above}
 use Rattle.rules.proofs.Digits.{length-hex, length-hexes}
-use Rattle.tree.specs.WrittenLines.{fourFields, commandLine, Bytes, Eight, Writable}
+use Rattle.tree.specs.WrittenLines.{fourFields, commandLine, Bytes, EightDigits, Writable}
 use Rattle.tree.proofs.SheetLines.{lines-feed, digits-unbroken}
 
 -- ---- digits
@@ -79,7 +79,7 @@ pairs-at p (b ∷ key) rest {i} e h =
     let on = pairs-at (p ++ hex 2 b) key rest e′ (λ k l. h (suc k) (omega arith)) in
     rw append-assoc (ap₂ _∷_ (field-at p 2 b (hexes key ++ rest) e (h 0 (omega arith))) (rw append-assoc at on))
 
-module _ (operation : ℕ) (low : operation < 256) (key : List ℕ) (b : Bytes key) (n : ℕ) (small : Eight n) where
+module _ (operation : ℕ) (low : operation < 256) (key : List ℕ) (b : Bytes key) (n : ℕ) (small : EightDigits n) where
   abbrev line : List ℕ
   line = fourFields operation key n
 

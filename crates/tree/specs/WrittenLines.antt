@@ -22,12 +22,12 @@ pub record Bytes (key : List ℕ) : Type 0 where
   pub small : (k : ℕ) → k < length key → getD key k 0 < 256
 
 -- A number that 8 digits can hold.
-abbrev pub Eight : ℕ → Type 0
-Eight n = n < 4294967296
+abbrev pub EightDigits : ℕ → Type 0
+EightDigits n = n < 4294967296
 
 -- What a line can hold of a command.
 abbrev pub Writable : Command → Type 0
-Writable (insert key n) = Bytes key × Eight n
+Writable (insert key n) = Bytes key × EightDigits n
 Writable (delete key) = Bytes key
 Writable (find key) = Bytes key
-Writable (compact n) = Eight n
+Writable (compact n) = EightDigits n

@@ -82,7 +82,7 @@ loop-less : tie.Need-loop-less Inv-loop μ-loop
 loop-less c =
     let n = c .before .next .ensures in
     let r = c .before .before .before .before .before .before .before .before .before .before .before .before .before in
-    simp (length-take, length-drop) (omega (arith, n .some (r .before .before .loop-test .taken), r .before .before .loop-test .taken))
+    simp (length-take, length-drop) (omega (arith, n, r .before .before .loop-test .taken))
 
 loop-again : tie.Need-loop-again Inv-loop μ-loop
 loop-again c =

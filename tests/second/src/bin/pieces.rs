@@ -14,8 +14,9 @@ use std::time::Duration;
 const GREATEST: usize = 9_000;
 const WAIT: Duration = Duration::from_micros(20);
 
-/// Sizes that go into no buffer and no line a whole number of times.
-const PRIMES: [usize; 10] = [1, 2, 3, 5, 7, 11, 13, 521, 523, 4_093];
+/// Sizes that are drawn more often: a few bytes, so that a line comes in many pieces; about the
+/// longest line, which is 523 bytes with its line feed; and a little less than a page.
+const FAVOURED: [usize; 10] = [1, 2, 3, 5, 7, 11, 13, 521, 523, 4_093];
 
 fn main() -> ExitCode {
     let arguments: Vec<String> = std::env::args().skip(1).collect();
@@ -53,11 +54,12 @@ fn copy(mut random: Random, greatest: usize) -> io::Result<()> {
     Ok(())
 }
 
-/// One in four is a prime, and most of those are small; with more, long sheets would take long.
+/// One in four is a favoured one, and most of those are small; with more, long sheets would take
+/// long.
 fn size(random: &mut Random, greatest: usize) -> usize {
     let any = random.below(greatest) + 1;
     if random.chance(25) {
-        random.pick(&PRIMES).min(greatest)
+        random.pick(&FAVOURED).min(greatest)
     } else {
         any
     }
