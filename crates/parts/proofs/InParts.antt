@@ -8,6 +8,7 @@ use native.Mathlib.Omega.{arith}
 use lib.ListN.{length, take, drop, take-append-drop}
 use lib.Seq.{sets-eq, length-take-le, take-take, take-at}
 use lib.IntN.{ℤ}
+use Rattle.rules.specs.declared.Answer.the-variants.{Done}
 use Rattle.rules.specs.WhatTheIndexDoes.{document01, lastCell}
 use Rattle.rules.specs.Rendering.{chained, readTable}
 use Rattle.rules.specs.ARun.{sheetLines, Answered, answeredLines}
@@ -21,8 +22,24 @@ use Rattle.tree.proofs.SheetLines.{unbroken-take, lines-few, lines-cut}
 use Rattle.tree.proofs.LongLines.{shortened}
 use Rattle.tree.proofs.Runs.{answered-append, length-answers}
 use Rattle.tree.proofs.EndedRuns.{ended-renders}
-use Rattle.sheets.specs.Answering.{linesAnswered, LinesAnswered}
+use Rattle.sheets.specs.Answering.{linesAnswered, AllAnswered}
 use Rattle.parts.specs.Parts.{Cut, Carried, AnswersPart, behind, PartAnswered, Streamed, ended, part}
+
+-- ---- what is written
+
+-- The count of an answer that is done.
+pub all-counted : {r n : ℕ} → Done r ≡ Done n → r ≡ n
+all-counted e = cc
+
+-- The answers to all lines stand at the front of the buffer.
+pub all-written : (base check : List ℤ) (sheet out : List ℕ) {lines : ℕ} {base′ check′ : List ℤ} {out′ : List ℕ} →
+    AllAnswered base check sheet out lines base′ check′ out′ → 11 * length (sheetLines sheet) ≤ length out →
+    take (11 * lines) out′ ≡ linesAnswered base check sheet .bytes
+all-written base check sheet out {lines} a room =
+    let bytes = linesAnswered base check sheet .bytes in
+    let count = all-counted (a .answer) in
+    let many : length bytes ≡ 11 * lines = length-answers document01 (lastCell base) (readTable base check) (sheetLines sheet) ∙ ap (λ (k : ℕ). 11 * k) (sym count) in
+    rw (a .out-is, sets-eq bytes out 0 (omega arith), zero-add) (take-at bytes _ (11 * lines) many)
 
 -- ---- a part
 
@@ -40,20 +57,18 @@ module _ {base check : List ℤ} {buffer : List ℕ} {n : ℕ} {out : List ℕ} 
   pub answers-room : 11 * length (sheetLines (take end buffer)) ≤ length out
   answers-room = omega (arith, lines-within, asked .room)
 
-  module _ {lines : ℕ} {base′ check′ : List ℤ} {out′ : List ℕ} (a : LinesAnswered base check (take end buffer) out lines base′ check′ out′) where
+  module _ {lines : ℕ} {base′ check′ : List ℤ} {out′ : List ℕ} (a : AllAnswered base check (take end buffer) out lines base′ check′ out′) where
     abbrev one : Answered
     one = linesAnswered base check (take end buffer)
 
     count-is : lines ≡ length (sheetLines (take end buffer))
-    count-is = let e = a .answer in cc
+    count-is = all-counted (a .answer)
 
     renders : Renders chained document01 base′ check′ (one .table)
     renders = rw (a .base-is, a .check-is) (ended-renders (rules-render document01 base check (asked .whole)) document01-round-trip (take end buffer) out)
 
     written : take (11 * lines) out′ ≡ one .bytes
-    written =
-        let many : length (one .bytes) ≡ 11 * lines = length-answers document01 (lastCell base) (readTable base check) (sheetLines (take end buffer)) ∙ ap (λ (k : ℕ). 11 * k) (sym count-is) in
-        rw (a .out-is, sets-eq (one .bytes) out 0 (omega (arith, answers-room, count-is)), zero-add) (take-at (one .bytes) _ (11 * lines) many)
+    written = all-written base check (take end buffer) out a answers-room
 
     module _ {held : ℕ} {buffer′ : List ℕ} (k : Carried buffer end n held buffer′) (rest : List ℕ) where
       abbrev unfinished : List ℕ

@@ -1,18 +1,20 @@
--- What is known of a turn, from what came of it. Assumes nothing.
-use mathlib.Core.Path.{_≡_, _∙_}
-use mathlib.Core.List.{List}
+-- What is known of a turn, from what came of it; and that turn after turn makes a sheet that comes in parts, of which `stream-whole` says
+-- that it is answered as the whole would be. Assumes nothing.
+use mathlib.Core.Path.{_≡_, sym, ap, _∙_}
+use mathlib.Core.List.{List, [], _++_}
 use Prim.Native.Nat.{ℕ, _+_, _*_, _-_, _≤_}
 use native.Mathlib.Omega.{arith}
-use lib.ListN.{length, take}
-use lib.Seq.{length-take-le}
+use lib.ListN.{length, take, drop, take-append-drop}
+use lib.Seq.{length-take-le, length-sets, take-take}
 use lib.IntN.{ℤ}
 use borrow.Rule.Slice.PartMut.{putMid, take-put}
 use Rattle.rules.specs.ARun.{sheetLines}
 use Rattle.tree.proofs.SheetLines.{lines-few}
-use Rattle.sheets.specs.Answering.{LinesAnswered}
-use Rattle.parts.specs.Parts.{PartAnswered}
+use Rattle.sheets.specs.Answering.{AllAnswered}
+use Rattle.parts.specs.Parts.{PartAnswered, Streamed, ended, part}
+use Rattle.parts.proofs.InParts.{all-counted, all-written}
 use Rattle.run_sheet.specs.declared.Turn.the-variants.{Part, Last, Failed}
-use Rattle.run_sheet.specs.Turns.{Ready, Taken}
+use Rattle.run_sheet.specs.Turns.{Ready, PartTaken, LastTaken, Taken}
 
 pub none-taken : {base check : List ℤ} {buffer : List ℕ} {held : ℕ} {out : List ℕ} {base′ check′ : List ℤ} {buffer′ out′ : List ℕ} → Taken base check buffer held out base′ check′ buffer′ out′ Failed
 none-taken = record {
@@ -32,7 +34,7 @@ module _ {base check : List ℤ} {buffer : List ℕ} {held : ℕ} {out : List �
   last-room more = rw (kept more) (omega (arith, lines-few (take held buffer), length-take-le held buffer (omega (arith, ready .short, ready .buffered)), ready .short, ready .room))
 
   pub last-taken : (more : List ℕ) {lines : ℕ} {base′ check′ : List ℤ} {buffer′ out′ : List ℕ} → length out′ ≡ length out →
-      LinesAnswered base check (take held (read-on buffer held more)) out lines base′ check′ out′ → Taken base check buffer held out base′ check′ buffer′ out′ (Last lines)
+      AllAnswered base check (take held (read-on buffer held more)) out lines base′ check′ out′ → Taken base check buffer held out base′ check′ buffer′ out′ (Last lines)
   last-taken more {lines} long a = record {
     part = λ lines held′ e. let z : _≡_ {A = ℕ} 0 1 = cc in absurd (omega arith);
     last = λ lines′ e.
@@ -59,3 +61,22 @@ module _ {base check : List ℤ} {buffer : List ℕ} {held : ℕ} {out : List �
         });
     last = λ lines e. let z : _≡_ {A = ℕ} 0 1 = cc in absurd (omega arith);
   }
+
+-- ---- turn after turn
+
+module _ {base check : List ℤ} {buffer : List ℕ} {held : ℕ} {out : List ℕ} {base′ check′ : List ℤ} {buffer′ out′ : List ℕ} where
+  -- A part that was answered is a link of a sheet that comes in parts, with what was read behind what is carried over.
+  pub part-streams : {lines held′ : ℕ} (p : PartTaken base check buffer held out base′ check′ buffer′ out′ lines held′) {sheet written : List ℕ} →
+      Streamed base′ check′ (take held′ buffer′) sheet written →
+      Streamed base check (take held buffer) (drop held (take (p .n) (p .read)) ++ sheet) (take (11 * lines) out′ ++ written)
+  part-streams p s = part (take held buffer) (drop held (take (p .n) (p .read))) _ _
+      (sym (take-append-drop held (take (p .n) (p .read))) ∙ ap (λ (b : List ℕ). b ++ drop held (take (p .n) (p .read))) (take-take held (p .n) (p .read) (p .more) ∙ p .kept))
+      (p .answered) s
+
+  -- What is answered at the sheet's end is the last link.
+  pub last-streams : {lines : ℕ} → LastTaken base check buffer held out base′ check′ buffer′ out′ lines →
+      Streamed base check (take held buffer) [] (take (11 * lines) out′)
+  last-streams {lines} l =
+      let long : length out′ ≡ length out = ap length (l .answered .out-is) ∙ simp length-sets in
+      let count = all-counted (l .answered .answer) in
+      rw (all-written base check (take held buffer) out (l .answered) (omega (arith, l .room))) ended

@@ -8,7 +8,7 @@ use lib.IntN.{ℤ}
 use Rattle.rules.specs.WhatTheIndexDoes.{document01}
 use Rattle.rules.specs.ASoundTable.{sound}
 use Rattle.tree.specs.Sheets.{TOO_LONG}
-use Rattle.sheets.specs.Answering.{LinesAnswered}
+use Rattle.sheets.specs.Answering.{AllAnswered}
 use Rattle.parts.specs.Parts.{PartAnswered}
 use Rattle.run_sheet.specs.declared.Turn.{Turn}
 use Rattle.run_sheet.specs.declared.Turn.the-variants.{Part, Last}
@@ -33,7 +33,7 @@ module _ (base check : List ℤ) (buffer : List ℕ) (held : ℕ) (out : List �
 
   -- What is carried over is answered to its end.
   pub record LastTaken (lines : ℕ) : Type 0 where
-    pub answered : LinesAnswered base check (take held buffer) out lines base′ check′ out′
+    pub answered : AllAnswered base check (take held buffer) out lines base′ check′ out′
     pub room : 11 * lines ≤ length out′
 
   -- What is known of a turn, by what came of it; of one that failed nothing is.

@@ -34,7 +34,7 @@ use Rattle.tree.proofs.EndedRuns.{again-renders}
 use Rattle.text.proofs.Sets.{sets-then, sets-part}
 use Rattle.sheets.specs.Reading.{FieldsRead}
 use Rattle.sheets.proofs.Counted.{next-line}
-use Rattle.sheets.specs.Answering.{lineEdit, fieldsEdit, AnswersLines, linesAnswered, LinesAnswered}
+use Rattle.sheets.specs.Answering.{lineEdit, fieldsEdit, AnswersLines, linesAnswered, AllAnswered}
 
 lengths-sound : (base check : List ℤ) → sound document01 base check ≡ true → length base ≡ length check
 lengths-sound base check whole = lengths-same base check (rules-render document01 base check whole .lengths)
@@ -90,7 +90,7 @@ module _ (base₀ check₀ : List ℤ) (sheet out₀ : List ℕ) where
       pub check-long : length check ≡ length check₀
       check-long = sym (lengths-sound base check (s .whole)) ∙ s .long ∙ lengths-sound base₀ check₀ (asked .whole)
 
-      pub still-last : length rest ≤ 0 → LinesAnswered base₀ check₀ sheet out₀ count base check out
+      pub still-last : length rest ≤ 0 → AllAnswered base₀ check₀ sheet out₀ count base check out
       unfolding sheetLines answeredLines
       still-last h =
           let none : rest ≡ [] = none-left rest h in
@@ -144,7 +144,7 @@ module _ (base check : List ℤ) (sheet out : List ℕ) where
       (record { answer = refl; base-is = refl; check-is = refl; out-is = refl })
 
   pub all-answered : length (sheetLines sheet) ≤ length out / 11 → {r : ℕ} {base′ check′ : List ℤ} {out′ : List ℕ} →
-      LinesAnswered base check sheet out r base′ check′ out′ → ran (Done r) base′ check′ out′
+      AllAnswered base check sheet out r base′ check′ out′ → ran (Done r) base′ check′ out′
   unfolding soundRun
   all-answered h a = rw (le-leb (11 * length (sheetLines sheet)) (length out) (omega arith))
       a

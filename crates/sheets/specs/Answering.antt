@@ -43,5 +43,5 @@ abbrev pub linesAnswered : List ℤ → List ℤ → List ℕ → Answered
 linesAnswered base check sheet = answeredLines document01 (lastCell base) (readTable base check) (sheetLines sheet)
 
 -- What a run leaves where it is done, with the number of lines.
-abbrev pub LinesAnswered : List ℤ → List ℤ → List ℕ → List ℕ → ℕ → List ℤ → List ℤ → List ℕ → Type 0
-LinesAnswered base check sheet out r = Runs (ended chained document01 (length base) (readTable base check) sheet out) (Done r)
+abbrev pub AllAnswered : List ℤ → List ℤ → List ℕ → List ℕ → ℕ → List ℤ → List ℤ → List ℕ → Type 0
+AllAnswered base check sheet out r = Runs (ended chained document01 (length base) (readTable base check) sheet out) (Done r)

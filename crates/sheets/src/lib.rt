@@ -11,7 +11,7 @@ ghost use Rattle.rules.specs.Commands.{insert, delete, find, compact};
 ghost use Rattle.rules.specs.Rendering.{chained};
 ghost use Rattle.rules.specs.Calls.{soundRun};
 ghost use Rattle.rules.specs.Promised.{Edits, Runs};
-ghost use Rattle.sheets.specs.Answering.{AnswersLines, LinesAnswered, CarriesOut, lineEdit, fieldsEdit};
+ghost use Rattle.sheets.specs.Answering.{AnswersLines, AllAnswered, CarriesOut, lineEdit, fieldsEdit};
 
 // A sheet's lines: how many there are, and where one ends.
 mod lines;
@@ -33,7 +33,7 @@ pub fn run(base: &mut [i32], check: &mut [i32], sheet: &[u8], answers: &mut [u8]
 // Answers each line in turn; each answer goes to the next part of the buffer. Gives the number of lines.
 pub fn answer(base: &mut [i32], check: &mut [i32], sheet: &[u8], answers: &mut [u8]) -> usize
     requires { ⌜ AnswersLines (now base) (now check) (now sheet) (now answers) ⌝ }
-    ensures { λ r. ⌜ LinesAnswered (now (base .entry)) (now (check .entry)) (now (sheet .entry)) (now (answers .entry)) r (now (base .exit)) (now (check .exit)) (now (answers .exit)) ⌝ }
+    ensures { λ r. ⌜ AllAnswered (now (base .entry)) (now (check .entry)) (now (sheet .entry)) (now (answers .entry)) r (now (base .exit)) (now (check .exit)) (now (answers .exit)) ⌝ }
 {
     let mut key = [0u8; 255];
     let mut rest = sheet;
