@@ -7,7 +7,7 @@ use libc::STDIN_FILENO;
 use libc::STDOUT_FILENO;
 ghost use Prim.Native.Nat.{_*_, _≤_};
 ghost use lib.ListN.{length};
-ghost use Rattle.run_sheet.specs.Turns.{Ready, Taken};
+ghost use Rattle.run_sheet.specs.Turns.{Ready, ReadBehind, Reached, Taken};
 
 // The elements of the table.
 const LENGTH: usize = 4096;
@@ -36,7 +36,8 @@ fn answer_all(base: &mut [i32], check: &mut [i32], buffer: &mut [u8], answers: &
     let mut turns = u64::MAX;
     while 0 < turns {
         turns -= 1;
-        let turn = answer_part(base, check, buffer, held, answers);
+        let got = read(buffer, held);
+        let turn = answer_part(base, check, buffer, held, got, answers);
         match turn {
             Turn::Part(lines, carried) => {
                 if !write(answers, lines) {
@@ -67,19 +68,27 @@ pub enum Turn {
     Failed,
 }
 
-// Reads once, behind what is carried over, and answers the lines that are finished then; or what is carried over, where the sheet has
-// ended.
+// Reads once, behind what is carried over; gives what C's read gives.
+fn read(buffer: &mut [u8], held: usize) -> isize
+    requires { ⌜ held ≤ length (now buffer) ⌝ }
+    ensures { λ r. ⌜ ReadBehind (now (buffer .entry)) held r (now (buffer .exit)) ⌝ }
+{
+    libc::read(STDIN_FILENO, &mut buffer[held..])
+}
+
+// Answers the lines that are finished with what was read behind what is carried over; or what is carried over, where nothing was read,
+// for then the sheet has ended.
 fn answer_part(
     base: &mut [i32],
     check: &mut [i32],
     buffer: &mut [u8],
     held: usize,
+    got: isize,
     answers: &mut [u8],
 ) -> Turn
-    requires { ⌜ Ready (now base) (now check) (now buffer) held (now answers) ⌝ }
-    ensures { λ r. ⌜ Taken (now (base .entry)) (now (check .entry)) (now (buffer .entry)) held (now (answers .entry)) (now (base .exit)) (now (check .exit)) (now (buffer .exit)) (now (answers .exit)) r ⌝ }
+    requires { ⌜ Reached (now base) (now check) (now buffer) held got (now answers) ⌝ }
+    ensures { λ r. ⌜ Taken (now (base .entry)) (now (check .entry)) (now (buffer .entry)) held got (now (answers .entry)) (now (base .exit)) (now (check .exit)) (now (buffer .exit)) (now (answers .exit)) r ⌝ }
 {
-    let got = libc::read(STDIN_FILENO, &mut buffer[held..]);
     if got < 0 {
         return Turn::Failed;
     }

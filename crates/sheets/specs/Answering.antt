@@ -3,7 +3,7 @@ use mathlib.Core.Path.{_≡_}
 use mathlib.Core.Bool.{true}
 use mathlib.Core.List.{List}
 use mathlib.Core.Option.{Option}
-use Prim.Native.Nat.{ℕ, _*_, _≤_, _<_}
+use Prim.Native.Nat.{ℕ, _*_, _≤_}
 use lib.ListN.{length}
 use lib.IntN.{ℤ}
 use Rattle.rules.specs.declared.Answer.the-variants.{Done}
@@ -14,6 +14,7 @@ use Rattle.rules.specs.Commands.{Command}
 use Rattle.rules.specs.ARun.{sheetLines, commandOf, Answered, answeredLine, answeredLines}
 use Rattle.rules.specs.Calls.{Edited, ended, stored}
 use Rattle.rules.specs.Promised.{Runs}
+use Rattle.tree.specs.WrittenLines.{EightDigits}
 
 -- ---- one line
 
@@ -29,7 +30,7 @@ module _ (base check : List ℤ) where
 -- That a line's fields be carried out.
 pub record CarriesOut (base check : List ℤ) (number : ℕ) : Type 0 where
   pub whole : sound document01 base check ≡ true
-  pub small : number < 4294967296
+  pub small : EightDigits number
 
 -- ---- all of them
 

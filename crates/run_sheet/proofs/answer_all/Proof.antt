@@ -2,16 +2,18 @@
 -- of turns left. Assumes nothing.
 use mathlib.Core.Path.{_≡_, refl}
 use lib.ListN.{length}
+use mir.Facts.{toZ-ofZ}
 use borrow.Author.Needs.{needs}
 use Rattle.run_sheet.specs.Turns.{Ready}
+use Rattle.run_sheet.proofs.Turning.{reached}
 use Rattle.run_sheet.proofs.answer_all.Statement.{statement}
 use Rattle.run_sheet.proofs.answer_all.Tie as tie
 
 abbrev Inv-loop : tie.InvT-loop
-Inv-loop base₀ check₀ buffer₀ answers₀ held₀ turns₀ t11 t12 base check buffer answers held turns = (length base ≡ length base₀) × (length check ≡ length check₀) × Ready base check buffer held answers
+Inv-loop base₀ check₀ buffer₀ answers₀ held₀ turns₀ t12 t13 base check buffer answers held turns = (length base ≡ length base₀) × (length check ≡ length check₀) × Ready base check buffer held answers
 
 abbrev μ-loop : tie.MeasureT-loop
-μ-loop base₀ check₀ buffer₀ answers₀ held₀ turns₀ t11 t12 base check buffer answers held turns = turns
+μ-loop base₀ check₀ buffer₀ answers₀ held₀ turns₀ t12 t13 base check buffer answers held turns = turns
 
 loop-holds : tie.Need-loop-holds Inv-loop μ-loop
 loop-holds c = (refl, refl, c .before .before .pre)
@@ -19,14 +21,19 @@ loop-holds c = (refl, refl, c .before .before .pre)
 sub-turns : tie.Need-sub-turns Inv-loop μ-loop
 sub-turns c = search needs
 
+read-requires : tie.Need-read-requires Inv-loop μ-loop
+read-requires c κs = search needs
+
 answer-part-requires : tie.Need-answer-part-requires Inv-loop μ-loop
-answer-part-requires c κs = search needs
+answer-part-requires c κs =
+    let r = c .before .before .before .before .before .before in
+    rw (toZ-ofZ (record { sfits = r .read .ok })) (reached (r .before .before .before .loop .inv .2) (search needs) (r .read .ensures))
 
 enum-known-turn : tie.Need-enum-known-turn Inv-loop μ-loop
 enum-known-turn c = search needs
 
 -- What is known of the turn.
-abbrev answered : tie.After-slice-known4 Inv-loop μ-loop → tie.After-answer-part Inv-loop μ-loop
+abbrev answered : tie.After-slice-known5 Inv-loop μ-loop → tie.After-answer-part Inv-loop μ-loop
 answered k = k .before .before .before .before .before .before
 
 write-requires : tie.Need-write-requires Inv-loop μ-loop
@@ -131,6 +138,7 @@ answer-all-spec =
     μ-loop
     loop-holds
     sub-turns
+    read-requires
     answer-part-requires
     enum-known-turn
     write-requires

@@ -1,30 +1,18 @@
--- `answer_part` answers what was read behind what is carried over, or that alone where nothing was read. Assumes nothing.
-use mathlib.Core.Path.{sym}
-use mathlib.Core.List.{List}
-use Prim.Native.Nat.{ℕ}
+-- `answer_part` answers what was read behind what is carried over, all of it, or what is carried over where nothing was read. Assumes
+-- nothing.
+use mathlib.Core.Path.{_≡_, sym, ap, _∙_}
 use lib.Seq.{length-take-le}
+use lib.IntN.{pos}
+use mir.Facts.{toZ-ofZ}
 use borrow.Author.Needs.{needs}
-use Rattle.run_sheet.proofs.Turning.{none-taken, last-room, last-taken, part-taken}
+use Rattle.run_sheet.proofs.Turning.{none-got, all-got, none-taken, last-room, last-taken, part-taken}
 use Rattle.run_sheet.proofs.answer_part.Statement.{statement}
 use Rattle.run_sheet.proofs.answer_part.Tie as tie
 
-sub-read : tie.Need-sub-read
-sub-read c = search needs
-
-part-read-start : tie.Need-part-read-start
-part-read-start c = search needs
-
-part-read-end : tie.Need-part-read-end
-part-read-end c = search needs
-
-read-requires : tie.Need-read-requires
-read-requires c κs = search needs
-
-same-length : tie.Need-same-length
-same-length c = search needs
-
 returns : tie.Need-returns
-returns c = none-taken
+returns c =
+    let e = c .before .before .before in
+    none-taken (none-got (e .args .buffer .now) (e .args .held) (e .args .got) (e .pre .moved) (rw (toZ-ofZ (e .fits .got)) at (c .if1 .taken)))
 
 sub-count : tie.Need-sub-count
 sub-count c = search needs
@@ -49,16 +37,19 @@ slice-aggregate-answer c = sym (length-take-le _ _ (slice-reshare-prefix-answer 
 
 -- Where the bytes read are counted, and where it began.
 abbrev entry : tie.After-count → tie.Start
-entry k = k .before .before .before .before .before .before .before .before .before .before
+entry k = k .before .before .before .before .before .before
 
--- What was read.
-abbrev more : tie.After-count → List ℕ
-more k = k .before .before .before .before .before .before .read .last .1 .0
+-- All that was read is counted.
+got-is : (k : tie.After-count) → entry k .args .got ≡ pos (k .count .result)
+got-is k =
+    let fits = toZ-ofZ (entry k .fits .got) in
+    all-got (entry k .args .buffer .now) (entry k .args .held) (entry k .args .got) (entry k .pre .moved) (rw fits at (k .before .before .before .if1 .left)) (rw fits at (k .count .ensures .1))
 
 answer-requires : tie.Need-answer-requires
-answer-requires c κs =
-    let k = c .before .before .before .before .before in
-    record { whole = entry k .pre .whole; room = last-room (entry k .pre) (more k) }
+answer-requires c κs = let ready = entry (c .before .before .before .before .before) .pre .ready in record { whole = ready .whole; room = last-room ready }
+
+same-length : tie.Need-same-length
+same-length c = search needs
 
 same-length-2 : tie.Need-same-length-2
 same-length-2 c = search needs
@@ -69,16 +60,17 @@ same-length-3 c = search needs
 same-length-4 : tie.Need-same-length-4
 same-length-4 c = search needs
 
-same-length-5 : tie.Need-same-length-5
-same-length-5 c = search needs
-
 returns-2 : tie.Need-returns-2
 returns-2 c =
     let k = c .before .before .before .before .before .before .before .before .before .before in
-    last-taken (entry k .pre) (more k) (same-length-5 c) (c .before .before .before .before .answer .ensures)
+    let none : k .count .result ≡ 0 = search needs in
+    last-taken (entry k .pre .ready) (got-is k ∙ ap pos none) (same-length-4 c) (c .before .before .before .before .answer .ensures)
 
 answer-requires-2 : tie.Need-answer-requires-2
 answer-requires-2 c κs = search needs
+
+same-length-5 : tie.Need-same-length-5
+same-length-5 c = search needs
 
 same-length-6 : tie.Need-same-length-6
 same-length-6 c = search needs
@@ -89,23 +81,15 @@ same-length-7 c = search needs
 same-length-8 : tie.Need-same-length-8
 same-length-8 c = search needs
 
-same-length-9 : tie.Need-same-length-9
-same-length-9 c = search needs
-
 returns-3 : tie.Need-returns-3
 returns-3 c =
     let k = c .before .before .before .before .before .before .before .before .before .before .before .before in
-    part-taken (entry k .pre) (more k) (k .count .result) (search needs) (search needs) (same-length-8 c) (same-length-9 c) (c .before .before .before .before .before .before .answer2 .ensures)
+    part-taken (entry k .pre .ready) (k .count .result) (got-is k) (search needs) (search needs) (same-length-7 c) (same-length-8 c) (c .before .before .before .before .before .before .answer2 .ensures)
 
 pub answer-part-spec : {M : Type 1} → statement M
 answer-part-spec =
     tie.close
     (tie.spec
-    sub-read
-    part-read-start
-    part-read-end
-    read-requires
-    same-length
     returns
     sub-count
     part-count-start
@@ -115,14 +99,14 @@ answer-part-spec =
     slice-reshare-prefix-answer
     slice-aggregate-answer
     answer-requires
+    same-length
     same-length-2
     same-length-3
     same-length-4
-    same-length-5
     returns-2
     answer-requires-2
+    same-length-5
     same-length-6
     same-length-7
     same-length-8
-    same-length-9
     returns-3)
