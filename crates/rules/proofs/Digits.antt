@@ -2,12 +2,12 @@
 use mathlib.Core.Path.{_≡_, refl, sym, ap, _∙_}
 use mathlib.Core.Bool.{Bool, true, false, _&&_}
 use mathlib.Core.List.{List, [], _∷_, _++_}
-use Prim.Native.Nat.{ℕ, zero, suc, _*_, _/_}
+use Prim.Native.Nat.{ℕ, zero, suc, _+_, _*_, _/_}
 use native.Mathlib.Omega.{arith}
 use lib.ListN.{length, take, drop, length-append, take-append-drop}
 use lib.Dec.{ltb}
 use Rattle.rules.specs.declared.Answer.{Answer}
-use Rattle.rules.specs.Listing.{hex, hexes}
+use Rattle.rules.specs.Listing.{Entry, hex, hexes, lineOf}
 use Rattle.rules.specs.ARun.{nibble, digits, answerBytes}
 use Rattle.rules.proofs.Choices.{both}
 
@@ -26,6 +26,10 @@ length-hexes (b ∷ key) = rw (length-append, length-hex, length-hexes key) (ome
 pub length-answer : (a : Answer) → length (answerBytes a) ≡ 11
 unfolding answerBytes
 length-answer a = simp (length-append, length-hex)
+
+pub length-line : (e : Entry) → length (lineOf e) ≡ 11 + 2 * length (e .key)
+unfolding lineOf
+length-line e = simp (length-append, length-hex, length-hexes) (omega arith)
 
 -- ---- digits
 

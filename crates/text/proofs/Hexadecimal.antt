@@ -54,10 +54,6 @@ hexes-step l key at i h = rw (add-one, drop-cons key i 0 h) (sets-then l _ _ (he
 
 -- ---- lines
 
-pub length-line : (e : Entry) → length (lineOf e) ≡ 11 + 2 * length (e .key)
-unfolding lineOf
-length-line e = simp (length-append, length-hex, length-hexes) (omega arith)
-
 -- The four parts of a line, one after the other.
 pub line-parts : (l : List ℕ) (at : ℕ) (e : Entry) → let end = at + 2 + 2 * length (e .key) in
     set (sets (sets (sets l at (hex 2 (length (e .key)))) (at + 2) (hexes (e .key))) end (hex 8 (e .row))) (end + 8) LF ≡

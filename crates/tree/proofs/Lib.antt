@@ -40,6 +40,7 @@ pub mod SevenRules
 pub mod TheChain
 -- The listing.
 pub mod Listing
+pub mod ListingLength
 -- Demand 2.
 pub mod EmptyTable
 pub mod PlainList
@@ -54,6 +55,8 @@ pub mod SingleCalls
 pub mod EndedRuns
 pub mod RunCalls
 pub mod WrittenLines
+-- What an answer's value can be.
+pub mod Values
 -- Where the walk stops, insertion begins.
 pub mod Stopping
 pub mod Labels

@@ -6,7 +6,7 @@ use lib.ListN.{length}
 use borrow.Author.Needs.{needs}
 use borrow.Author.Tests.{not-true, not-false}
 use Rattle.rules.specs.Listing.{entry, lineOf}
-use Rattle.text.proofs.Hexadecimal.{length-line}
+use Rattle.rules.proofs.Digits.{length-line}
 use Rattle.listing.proofs.Writing.{lists-measured, lists-written, lists-past}
 use Rattle.listing.proofs.put.Statement.{statement}
 use Rattle.listing.proofs.put.Tie as tie
