@@ -1,0 +1,2 @@
+-- What is packed comes back.
+pub mod Packing
