@@ -2,7 +2,9 @@
 //! it can be compared with the proved program. It is plain on purpose. It knows no chain: it
 //! reads the used cells, works on them, and writes every element of both arrays anew.
 
+pub mod arrays;
 mod audit;
+pub mod cases;
 mod command;
 pub mod sheets;
 pub mod table;

@@ -341,3 +341,27 @@ pub fn line(operation: u8, key: &[u8], number: u32) -> Vec<u8> {
     line.extend(counted(key, number));
     line
 }
+
+/// Lines of 521 to 524 bytes, blank lines, CR LF, NULs, bytes past ASCII, and a good one.
+pub fn odd_lines() -> Vec<u8> {
+    let longest = line(1, &[b'a'; 255], 1);
+    let good = line(1, b"zz", 26);
+    let lines = [
+        &longest[..521],
+        &longest,
+        &[&longest, &b"0"[..]].concat(),
+        &[&longest, &b"00"[..]].concat(),
+        // The last bytes alone would be a command.
+        &[&b"0".repeat(523), &good[..]].concat(),
+        b"",
+        b"",
+        &[&good, &b"\r"[..]].concat(),
+        b"\r",
+        b"\0",
+        &[&good, &b"\0"[..]].concat(),
+        &[&good[..6], b"\0\0", &good[8..]].concat(),
+        &(0x80..=0xff).collect::<Vec<u8>>(),
+        &good,
+    ];
+    lines.map(|line| [line, b"\n"].concat()).concat()
+}

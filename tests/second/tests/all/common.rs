@@ -34,20 +34,10 @@ impl Pair {
         Pair { base, check }
     }
 
-    /// A table from its used cells (cell, parent, base); the chain is laid through the rest.
+    /// A table from its used cells (cell, parent, base), sound or not.
     pub fn built(length: usize, size: usize, used: &[(usize, i32, i32)]) -> Pair {
-        let mut pair = Pair::new(vec![0; length], vec![0; length]);
-        for &(cell, parent, base) in used {
-            (pair.base[cell], pair.check[cell]) = (base, parent);
-        }
-        let mut last_link = 0;
-        for cell in (1..=size).filter(|cell| used.iter().all(|(other, ..)| other != cell)) {
-            pair.check[last_link] = -(cell as i32);
-            last_link = cell;
-        }
-        pair.check[last_link] = -(size as i32 + 1);
-        pair.base[0] = size as i32;
-        pair
+        let (base, check) = arrays::built(length, size, used);
+        Pair { base, check }
     }
 
     /// A built table, which has to be sound.

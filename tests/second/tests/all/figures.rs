@@ -1,27 +1,32 @@
 //! The figures P1 to P12 of document 01, every element of both arrays.
 
 use crate::common::*;
+use second::arrays::{Figure, P1, P2, P3, P4, P5};
 use second::table::placed_base;
 use second::*;
 
+fn figure((base, check): Figure) -> Pair {
+    Pair::new(base, check)
+}
+
 pub fn p1() -> Pair {
-    Pair::new([1, 1, 0, 0, 0, 0, 0, 0, 0], [-2, 1, 0, 0, 0, 0, 0, 0, 0])
+    figure(P1)
 }
 
 pub fn p2() -> Pair {
-    Pair::new([4, 1, -7, 1, 1, 0, 0, 0, 0], [-5, 1, 4, 1, 3, 0, 0, 0, 0])
+    figure(P2)
 }
 
 pub fn p3() -> Pair {
-    Pair::new([7, 1, -7, 4, 0, -9, 0, 1, 0], [-4, 1, 7, 1, -6, 3, -8, 3, 0])
+    figure(P3)
 }
 
 pub fn p4() -> Pair {
-    Pair::new([6, 1, -7, 3, -9, 0, 1, 0, 0], [-5, 1, 6, 1, 3, -7, 3, 0, 0])
+    figure(P4)
 }
 
 pub fn p5() -> Pair {
-    Pair::new([3, 1, -9, 1, 0, 0, 0, 0, 0], [-4, 1, 3, 1, 0, 0, 0, 0, 0])
+    figure(P5)
 }
 
 /// A step of the table: from one figure by a call to another.

@@ -2,17 +2,13 @@
 
 mod also_run;
 mod audit;
+mod cases;
 mod common;
 mod damage;
-mod deletions;
 mod figures;
 mod generator;
 mod histories;
-mod insertions;
-mod listings;
 mod printed_sheet;
 mod refusals;
 mod run_sheet;
-mod shown;
-mod stored_output;
 mod traps;
