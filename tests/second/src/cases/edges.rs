@@ -40,9 +40,10 @@ fn refused_lengths(w: &mut Writer) {
     }
 }
 
-/// KEY and NUMBER come before DAMAGED, but for list and run.
+/// KEY and NUMBER come before DAMAGED, but for list and run. The last is a root with base 2 and no
+/// child.
 fn refused_tables(w: &mut Writer) {
-    for arrays in unsound() {
+    for arrays in unsound().into_iter().chain([built(9, 1, &[(1, 1, 2)])]) {
         w.title("DAMAGED");
         w.set(arrays);
         w.find_each(&["a", "ab", "c-0", "A", ""]);
