@@ -19,8 +19,8 @@ use Rattle.rules.specs.Commands.{delete, compact, carriedOut}
 use Rattle.rules.specs.Calls.{soundEdit}
 use Rattle.rules.specs.Promised.{Edits}
 use Rattle.tree.proofs.SevenRules.{rules-render, sound-shows}
-use Rattle.chain.specs.Edits.{Shown}
-use Rattle.chain.proofs.Outcomes.{stored-done, stored-refused}
+use Rattle.cells.specs.Edits.{Shown}
+use Rattle.tree.proofs.Outcomes.{stored-done, stored-refused}
 use Rattle.finding.specs.Reaching.{LooksUp}
 use Rattle.finding.proofs.KnownSound.{row-held, node-held}
 use Rattle.deletion.specs.Deleting.{Deletes, Removes, Steps, Moved}

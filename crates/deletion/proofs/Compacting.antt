@@ -21,10 +21,11 @@ use Rattle.tree.proofs.ChildCodes.{among-length, codes-lead, step-among, childr
 use Rattle.tree.proofs.LargestUsed.{largest-pos}
 use Rattle.tree.proofs.Compaction.{step-cases, step-trimmed, step-same, trim-sound, top-sits, target-fit}
 use Rattle.tree.proofs.StepsTaken.{steps-ended, steps-onward}
-use Rattle.chain.specs.Search.{Codes}
-use Rattle.chain.specs.Edits.{Shown, celled, Collects, Collected, Relocates}
-use Rattle.chain.proofs.Shown.{shown-small, shown-base, shown-parent}
-use Rattle.chain.proofs.Collected.{collected-behind}
+use Rattle.placing.specs.Search.{Codes}
+use Rattle.cells.specs.Edits.{Shown, celled}
+use Rattle.cells.proofs.Shown.{shown-small, shown-base, shown-parent}
+use Rattle.moving.specs.Children.{Collects, Collected, Relocates}
+use Rattle.moving.proofs.Collected.{collected-behind}
 use Rattle.deletion.specs.Deleting.{Steps, LowersChildren, Moved, lowering}
 
 -- ---- one step

@@ -22,8 +22,9 @@ use Rattle.tree.proofs.Steps.{last-step}
 use Rattle.tree.proofs.Trees.{based-pos, based-inside, step-used, step-far}
 use Rattle.tree.proofs.ChildCodes.{childless-codes}
 use Rattle.tree.proofs.Pruning.{prune-stays, prune-root, prune-onward, parent-stays, parent-based, less-tree, root-fit}
-use Rattle.chain.specs.Edits.{Shown, celled, holding, Releases, Relocates, Collects, Collected}
-use Rattle.chain.proofs.Shown.{shown-parent}
+use Rattle.cells.specs.Edits.{Shown, celled, holding, Releases}
+use Rattle.cells.proofs.Shown.{shown-parent}
+use Rattle.moving.specs.Children.{Relocates, Collects, Collected}
 use Rattle.deletion.specs.Deleting.{Looks, Prunes}
 
 -- ---- whether it has a child

@@ -14,8 +14,8 @@ use Rattle.tree.proofs.Trees.{based-pos, step-used, step-far}
 use Rattle.tree.proofs.Identifiers.{codes-length}
 use Rattle.tree.proofs.Pruning.{less-tree, parent-stays, parent-based}
 use Rattle.tree.proofs.Deletion.{leaf, leaf-step, leaf-childless, prune-leaf, cut, cut-now}
-use Rattle.chain.specs.Edits.{Shown, celled, holding, Releases}
-use Rattle.chain.proofs.Shown.{shown-base}
+use Rattle.cells.specs.Edits.{Shown, celled, holding, Releases}
+use Rattle.cells.proofs.Shown.{shown-base}
 use Rattle.deletion.specs.Deleting.{Removes, Prunes, Steps, Moved}
 
 module _ {base check : List ℤ} {s : ℕ} {key : List ℕ} {t : Table} (r : Removes base check s key t) where

@@ -11,7 +11,7 @@ use Rattle.rules.specs.ASoundTable.{sound}
 use Rattle.rules.specs.DeletionAndCompaction.{Moves, compactionStep}
 use Rattle.tree.specs.Soundness.{Tree, Sound}
 use Rattle.tree.specs.StepsTaken.{top, owner}
-use Rattle.chain.specs.Edits.{Shown, celled}
+use Rattle.cells.specs.Edits.{Shown, celled}
 
 -- ---- what is asked
 

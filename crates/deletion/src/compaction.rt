@@ -1,12 +1,9 @@
 // Compaction: steps that move the children of one node to a smaller base, as long as that is possible.
-use chain::cells;
-use chain::moving;
-use chain::placing;
 use rules::Alphabet;
 use rules::Cell;
 ghost use Rattle.rules.specs.WhatTheIndexDoes.{document01};
 ghost use Rattle.rules.specs.DeletionAndCompaction.{compactionStep, compacted};
-ghost use Rattle.chain.specs.Edits.{SomeTable, EveryTable};
+ghost use Rattle.cells.specs.Edits.{SomeTable, EveryTable};
 ghost use Rattle.deletion.specs.Deleting.{Steps, LowersChildren, lowering, Moved};
 
 // Trims the size as a step does, then repeats steps until n moves are made or a step moves nothing. Gives the moves made.

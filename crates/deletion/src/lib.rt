@@ -1,5 +1,4 @@
 // Document 01, 'Deletion and compaction', on a table known to be sound.
-use chain::cells;
 use rules::Alphabet;
 use rules::Answer;
 use rules::Cell;
@@ -12,7 +11,7 @@ ghost use Rattle.rules.specs.Commands.{delete, compact};
 ghost use Rattle.rules.specs.Rendering.{chained};
 ghost use Rattle.rules.specs.Calls.{soundEdit};
 ghost use Rattle.rules.specs.Promised.{Edits};
-ghost use Rattle.chain.specs.Edits.{Shown, SomeTable, EveryTable};
+ghost use Rattle.cells.specs.Edits.{Shown, SomeTable, EveryTable};
 ghost use Rattle.deletion.specs.Deleting.{Deletes, Removes};
 
 // The parents that a deletion leaves without a child.

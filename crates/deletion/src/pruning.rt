@@ -1,13 +1,11 @@
 // The cells that a deletion frees after the leaf: each parent left without a child.
-use chain::cells;
-use chain::moving;
 use rules::Alphabet;
 use rules::Cell;
 ghost use mathlib.Core.Path.{_≡_};
 ghost use Rattle.rules.specs.WhatTheIndexDoes.{GREATEST, document01};
 ghost use Rattle.rules.specs.Table.{childless};
 ghost use Rattle.rules.specs.DeletionAndCompaction.{prune};
-ghost use Rattle.chain.specs.Edits.{Shown, SomeTable, EveryTable, celled};
+ghost use Rattle.cells.specs.Edits.{Shown, SomeTable, EveryTable, celled};
 ghost use Rattle.deletion.specs.Deleting.{Looks, SomePath, EveryPath, Prunes};
 
 // The cell u lies so many labels below the root. If it is left without a child it becomes free, and its parent is looked at in its

@@ -12,7 +12,7 @@ use Rattle.rules.specs.Rendering.{chained}
 use Rattle.rules.specs.Commands.{Command, keyAllowed, numberAllowed}
 use Rattle.rules.specs.Calls.{soundEdit, editCall}
 use Rattle.rules.specs.Promised.{Edits}
-use Rattle.chain.proofs.Answered.{Leaves, answered-key, answered-number, answered-damaged, answered-sound}
+use Rattle.tree.proofs.Answered.{Leaves, answered-key, answered-number, answered-damaged, answered-sound}
 
 module _ (base check : List ℤ) (command : Command) where
   abbrev call : Answer → List ℤ → List ℤ → Type 0

@@ -27,8 +27,8 @@ use Rattle.tree.proofs.Labels.{label-low}
 use Rattle.tree.proofs.Identifiers.{identifier-coded}
 use Rattle.tree.proofs.SevenRules.{rules-render, sound-shows}
 use Rattle.tree.proofs.Stopping.{Stops, leaf-none, walk-begins}
-use Rattle.chain.specs.Edits.{Shown}
-use Rattle.chain.proofs.Outcomes.{shown-same, stored-done, stored-refused}
+use Rattle.cells.specs.Edits.{Shown}
+use Rattle.tree.proofs.Outcomes.{shown-same, stored-done, stored-refused}
 use Rattle.finding.specs.Reaching.{LooksUp}
 use Rattle.finding.proofs.RowFound.{reached-is}
 use Rattle.finding.proofs.KnownSound.{row-held}

@@ -25,9 +25,10 @@ use Rattle.tree.proofs.ChildCodes.{children-inside}
 use Rattle.tree.proofs.Relocation.{codes-moved}
 use Rattle.tree.proofs.ThereAndBack.{fit-back, relocate-back}
 use Rattle.tree.proofs.Collisions.{collide-fit, collide-tree, collide-base, collide-place}
-use Rattle.chain.specs.Edits.{Shown, sized, celled, Widens, Shrinks, Relocates}
+use Rattle.cells.specs.Edits.{Shown, sized, celled, Widens, Shrinks}
+use Rattle.moving.specs.Children.{Relocates}
 use Rattle.insertion.specs.Inserting.{growth, relocated, MovesAndGrows, Grows, Grown}
-use Rattle.chain.proofs.Shown.{shown-small, shown-size, shown-base}
+use Rattle.cells.proofs.Shown.{shown-small, shown-size, shown-base}
 use Rattle.insertion.proofs.Extending.{s-inside}
 use Rattle.insertion.proofs.Leaving.{fits-left, unfit-left, left-fits, left-unfit}
 

@@ -20,9 +20,9 @@ use Rattle.tree.specs.Labels.{firstLabel, furtherLabels}
 use Rattle.tree.proofs.UsedCells.{parent-used, parentless-unused}
 use Rattle.tree.proofs.Trees.{based-pos, based-inside}
 use Rattle.tree.proofs.Branches.{grow-count}
-use Rattle.chain.specs.Edits.{Collects, Collected}
+use Rattle.moving.specs.Children.{Collects, Collected}
 use Rattle.insertion.specs.Inserting.{growth, collision, extension, Extends, PlacesAnew, Grows, Grown, Extended}
-use Rattle.chain.proofs.Shown.{shown-base, shown-parent}
+use Rattle.cells.proofs.Shown.{shown-base, shown-parent}
 use Rattle.insertion.proofs.Leaving.{fits-left, unfit-left, done, no-room}
 
 module _ {base check : List ℤ} {s : ℕ} {rest : List ℕ} {row : ℕ} {t : Table} (e : Extends base check s rest row t) where

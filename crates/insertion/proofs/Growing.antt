@@ -25,10 +25,10 @@ use Rattle.tree.proofs.Placement.{placed-pos, placed-opens, placed-near, opens-
 use Rattle.tree.proofs.OneCell.{update-at, update-off}
 use Rattle.tree.proofs.Branches.{parent-same}
 use Rattle.tree.proofs.Labels.{further-none, further-some}
-use Rattle.chain.specs.Edits.{Shown, EveryTable, celled, holding, more, claimed, Claims}
+use Rattle.cells.specs.Edits.{Shown, EveryTable, celled, holding, more, claimed, Claims}
 use Rattle.insertion.specs.Inserting.{Grows, Grown, Retracts, growth, retracted}
-use Rattle.chain.proofs.Shown.{shown-small}
-use Rattle.chain.proofs.Holding.{held-each, base-stored}
+use Rattle.cells.proofs.Shown.{shown-small}
+use Rattle.cells.proofs.Holding.{held-each, base-stored}
 
 -- ---- a cell more
 

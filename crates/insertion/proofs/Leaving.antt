@@ -6,7 +6,7 @@ use lib.IntN.{ℤ}
 use Rattle.rules.specs.declared.Answer.the-variants.{Done, NoRoom}
 use Rattle.rules.specs.Table.{Table}
 use Rattle.rules.specs.Insertion.{Course}
-use Rattle.chain.specs.Edits.{Shown}
+use Rattle.cells.specs.Edits.{Shown}
 use Rattle.insertion.specs.Inserting.{Grown, Extended}
 
 module _ {course : Course} {t : Table} {base check : List ℤ} where

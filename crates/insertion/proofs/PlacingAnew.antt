@@ -25,9 +25,9 @@ use Rattle.tree.proofs.Labels.{label-high}
 use Rattle.tree.proofs.Trees.{past-unused}
 use Rattle.tree.proofs.Placement.{greatest-within, placed-within}
 use Rattle.tree.proofs.ChildCodes.{codes-lead}
-use Rattle.chain.specs.Search.{Codes}
+use Rattle.placing.specs.Search.{Codes}
 use Rattle.insertion.specs.Inserting.{growth, collision, relocated, PlacesAnew, MovesAndGrows, Grown, Extended}
-use Rattle.chain.proofs.Shown.{shown-small}
+use Rattle.cells.proofs.Shown.{shown-small}
 use Rattle.insertion.proofs.Leaving.{fits-left, unfit-left, done, no-room}
 
 -- Behind the first of some codes.

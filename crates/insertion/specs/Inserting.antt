@@ -14,7 +14,7 @@ use Rattle.rules.specs.Placement.{greatestOf, placed}
 use Rattle.rules.specs.Insertion.{relocate, Course, grow, collide, extend}
 use Rattle.tree.specs.Soundness.{Tree}
 use Rattle.tree.specs.Labels.{firstLabel, furtherLabels}
-use Rattle.chain.specs.Edits.{Shown, celled, sized, holding}
+use Rattle.cells.specs.Edits.{Shown, celled, sized, holding}
 
 -- What `label` gives: the first label, not past the greatest.
 pub record Label (rest : List ℕ) (r : ℕ) : Type 0 where

@@ -1,8 +1,5 @@
 // Document 01, 'Insertion', on a table known to be sound. It is carried out label by label; where a placement in its course does
 // not fit, each step takes back what it did, so that every element is as it was.
-use chain::cells;
-use chain::moving;
-use chain::placing;
 use rules::Alphabet;
 use rules::Answer;
 use rules::Cell;
@@ -11,7 +8,7 @@ ghost use Rattle.rules.specs.WhatTheIndexDoes.{document01, lastCell};
 ghost use Rattle.rules.specs.Commands.{insert};
 ghost use Rattle.rules.specs.Rendering.{chained};
 ghost use Rattle.rules.specs.Calls.{soundEdit};
-ghost use Rattle.chain.specs.Edits.{Shown, SomeTable, EveryTable};
+ghost use Rattle.cells.specs.Edits.{Shown, SomeTable, EveryTable};
 ghost use Rattle.rules.specs.Promised.{Edits};
 ghost use Rattle.insertion.specs.Inserting.{Inserts, Extends, PlacesAnew, MovesAndGrows, Grows, Retracts, Label, growth, collision, extension, relocated, retracted, Extended, Grown};
 

@@ -20,7 +20,7 @@ use Rattle.rules.specs.Calls.{findCall, commandCall}
 use Rattle.rules.specs.Promised.{Edits}
 use Rattle.tree.proofs.SevenRules.{rules-render}
 use Rattle.tree.proofs.SingleCalls.{chained-audited, single-stored}
-use Rattle.chain.proofs.Outcomes.{stored-refused}
+use Rattle.tree.proofs.Outcomes.{stored-refused}
 use Rattle.sheets.specs.Answering.{lineEdit}
 
 module _ (base check : List ℤ) where

@@ -55,6 +55,9 @@ pub mod SingleCalls
 pub mod EndedRuns
 pub mod RunCalls
 pub mod WrittenLines
+-- What a command leaves in the arrays.
+pub mod Outcomes
+pub mod Answered
 -- What an answer's value can be.
 pub mod Values
 -- Where the walk stops, insertion begins.

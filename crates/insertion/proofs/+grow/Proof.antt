@@ -14,21 +14,21 @@ use Rattle.rules.specs.WhatTheIndexDoes.{GREATEST, document01}
 use Rattle.rules.specs.Table.{Table, inner}
 use Rattle.rules.proofs.Texts.{behind, first-and-rest}
 use Rattle.tree.specs.Labels.{firstLabel}
-use Rattle.chain.specs.Search.{Codes}
-use Rattle.chain.specs.Edits.{Shown, more}
+use Rattle.placing.specs.Search.{Codes}
+use Rattle.cells.specs.Edits.{Shown, more}
 use Rattle.insertion.specs.Inserting.{Grows}
-use Rattle.chain.proofs.Shown.{shown-size, shown-base}
-use Rattle.chain.proofs.Placed.{searches, finds-placed}
+use Rattle.cells.proofs.Shown.{shown-size, shown-base}
+use Rattle.cells.proofs.Placed.{searches, finds-placed}
 use Rattle.insertion.proofs.Growing.{grow-claims, Begun, Goes, grow-ended, grow-retracts, grow-retracted, placed-small, grow-past, grow-onward, grow-fitted, grow-left, grow-unfitted}
 use Rattle.insertion.proofs.grow.Reads as grow
 use Rattle.insertion.proofs.grow.Kinds as kinds
 use Rattle.insertion.proofs.+grow.Lts-grow as lts
-use Rattle.chain.proofs.cells.claim.Reads as claim
+use Rattle.cells.proofs.claim.Reads as claim
 use Rattle.insertion.proofs.label.Reads as label
 use Rattle.insertion.proofs.retract.Reads as retract
-use Rattle.chain.proofs.placing.place.Reads as place
+use Rattle.placing.proofs.place.Reads as place
 use Rattle.numbers.proofs.plus_at.Reads as plus-at
-use Rattle.chain.proofs.cells.put_row.Reads as put-row
+use Rattle.cells.proofs.put_row.Reads as put-row
 use Rattle.numbers.proofs.put_plus.Reads as put-plus
 use Rattle.insertion.proofs.+grow.{statement}
 use Rattle.insertion.proofs.+grow.Tie.{close}

@@ -2,9 +2,9 @@
 use mathlib.Core.Path.{refl}
 use borrow.Author.Needs.{needs}
 use Rattle.rules.specs.Table.{Table}
-use Rattle.chain.specs.Edits.{Collected}
+use Rattle.moving.specs.Children.{Collected}
 use Rattle.insertion.specs.Inserting.{Extends}
-use Rattle.chain.proofs.Collected.{collected-length, collected-within}
+use Rattle.moving.proofs.Collected.{collected-length, collected-within}
 use Rattle.insertion.proofs.Extending.{collects, anew}
 use Rattle.insertion.proofs.collide.Statement.{statement}
 use Rattle.insertion.proofs.collide.Tie as tie

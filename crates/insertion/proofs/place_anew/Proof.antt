@@ -8,7 +8,7 @@ use Rattle.rules.specs.Table.{Table, used}
 use Rattle.rules.specs.Placement.{placed}
 use Rattle.rules.proofs.Texts.{behind}
 use Rattle.insertion.specs.Inserting.{PlacesAnew, MovesAndGrows}
-use Rattle.chain.proofs.Placed.{searches, finds-placed}
+use Rattle.cells.proofs.Placed.{searches, finds-placed}
 use Rattle.insertion.proofs.PlacingAnew.{anew-codes, base-small, greatest-small, moves, past-last, all-placed, not-placed}
 use Rattle.insertion.proofs.place_anew.Statement.{statement}
 use Rattle.insertion.proofs.place_anew.Tie as tie

@@ -9,9 +9,9 @@ use lib.Dec.{ltb, eqb}
 use borrow.Author.Tests.{ne-eqb}
 use borrow.Author.Needs.{needs}
 use Rattle.rules.specs.Table.{Table, free, used}
-use Rattle.chain.specs.Edits.{Shown, EveryTable, holding, Shrinks, Releases}
+use Rattle.cells.specs.Edits.{Shown, EveryTable, holding, Shrinks, Releases}
 use Rattle.insertion.specs.Inserting.{Retracts}
-use Rattle.chain.proofs.Holding.{held-each}
+use Rattle.cells.proofs.Holding.{held-each}
 use Rattle.insertion.proofs.retract.Statement.{statement}
 use Rattle.insertion.proofs.retract.Tie as tie
 

@@ -5,7 +5,7 @@ use borrow.Author.Needs.{needs}
 use borrow.Author.Tests.{le-leb, lt-leb}
 use Rattle.rules.specs.Commands.{compact, keyAllowed, numberAllowed}
 use Rattle.rules.specs.ARun.{answeredLine}
-use Rattle.chain.proofs.Answered.{answered-number, answered-sound}
+use Rattle.tree.proofs.Answered.{answered-number, answered-sound}
 use Rattle.sheets.proofs.compact.Statement.{statement}
 use Rattle.sheets.proofs.compact.Tie as tie
 

@@ -5,7 +5,7 @@ use Rattle.rules.specs.Commands.{find, keyAllowed}
 use Rattle.rules.specs.ARun.{answeredLine}
 use Rattle.rules.proofs.Choices.{was-no, was-yes}
 use Rattle.finding.proofs.KnownSound.{long}
-use Rattle.chain.proofs.Answered.{answered-key}
+use Rattle.tree.proofs.Answered.{answered-key}
 use Rattle.sheets.proofs.Carried.{looked-up}
 use Rattle.sheets.proofs.find.Statement.{statement}
 use Rattle.sheets.proofs.find.Tie as tie

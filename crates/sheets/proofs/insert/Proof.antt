@@ -6,7 +6,7 @@ use Rattle.rules.specs.WhatTheIndexDoes.{document01, isIdentifier, isRow}
 use Rattle.rules.specs.Commands.{insert, keyAllowed, numberAllowed}
 use Rattle.rules.specs.ARun.{answeredLine}
 use Rattle.rules.proofs.Choices.{was-no, was-yes}
-use Rattle.chain.proofs.Answered.{answered-key, answered-number, answered-sound}
+use Rattle.tree.proofs.Answered.{answered-key, answered-number, answered-sound}
 use Rattle.sheets.proofs.insert.Statement.{statement}
 use Rattle.sheets.proofs.insert.Tie as tie
 

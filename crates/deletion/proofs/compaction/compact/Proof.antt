@@ -10,7 +10,7 @@ use lib.IntN.{ℤ}
 use Rattle.rules.specs.WhatTheIndexDoes.{document01}
 use Rattle.rules.specs.Table.{Table}
 use Rattle.rules.specs.DeletionAndCompaction.{trimmed, compactionStep, compactionSteps, compacted}
-use Rattle.chain.specs.Edits.{SomeTable, EveryTable}
+use Rattle.cells.specs.Edits.{SomeTable, EveryTable}
 use Rattle.deletion.specs.Deleting.{Steps, Moved}
 use Rattle.deletion.proofs.Compacting.{Going, steps-trimmed, going-begun, going-ended, going-stopped, going-on}
 use Rattle.deletion.proofs.compaction.compact.Statement.{statement}

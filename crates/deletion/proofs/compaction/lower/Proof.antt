@@ -7,8 +7,8 @@ use lib.ListN.{length, take, drop}
 use borrow.Author.Needs.{needs}
 use Rattle.rules.specs.WhatTheIndexDoes.{END, GREATEST}
 use Rattle.rules.specs.Table.{Table}
-use Rattle.chain.specs.Edits.{Collects, Collected}
-use Rattle.chain.proofs.Collected.{collected-within}
+use Rattle.moving.specs.Children.{Collects, Collected}
+use Rattle.moving.proofs.Collected.{collected-within}
 use Rattle.deletion.specs.Deleting.{Steps, LowersChildren}
 use Rattle.deletion.proofs.Compacting.{root-stays, lower-collects, lowers}
 use Rattle.deletion.proofs.compaction.lower.Statement.{statement}

@@ -3,8 +3,8 @@ use mathlib.Core.Path.{_≡_}
 use borrow.Author.Needs.{needs}
 use Rattle.rules.specs.Table.{Table, used}
 use Rattle.rules.specs.Placement.{placed}
-use Rattle.chain.specs.Edits.{Relocates}
-use Rattle.chain.proofs.Placed.{searches, finds-placed}
+use Rattle.cells.proofs.Placed.{searches, finds-placed}
+use Rattle.moving.specs.Children.{Relocates}
 use Rattle.deletion.specs.Deleting.{LowersChildren}
 use Rattle.deletion.proofs.Compacting.{lower-codes, children-stay, relocates, children-move}
 use Rattle.deletion.proofs.compaction.lower_children.Statement.{statement}

@@ -12,14 +12,14 @@ use borrow.Fn.PlainCycle.{Measures, is, falls, and}
 use Rattle.rules.specs.WhatTheIndexDoes.{GREATEST}
 use Rattle.rules.specs.Table.{Table, free, childless}
 use Rattle.rules.proofs.Choices.{was-no, was-yes}
-use Rattle.chain.specs.Edits.{holding}
+use Rattle.cells.specs.Edits.{holding}
 use Rattle.deletion.specs.Deleting.{Prunes}
 use Rattle.deletion.proofs.FreedCells.{prune-looks, prune-stayed, prune-relocates, prune-relocated, prune-releases, prune-parent, prune-left}
 use Rattle.deletion.proofs.pruning.prune.Reads as prune
 use Rattle.deletion.proofs.pruning.prune.Kinds as kinds
 use Rattle.deletion.proofs.pruning.+prune.Lts-prune as lts
-use Rattle.chain.proofs.cells.release.Reads as release
-use Rattle.chain.proofs.moving.relocate.Reads as relocate
+use Rattle.cells.proofs.release.Reads as release
+use Rattle.moving.proofs.relocate.Reads as relocate
 use Rattle.deletion.proofs.pruning.is_childless.Reads as is-childless
 use Rattle.numbers.proofs.plus_at.Reads as plus-at
 use Rattle.deletion.proofs.pruning.+prune.{statement}
