@@ -22,7 +22,7 @@ install: all
 	$(INSTALL) -d '$(DESTDIR)$(INCLUDEDIR)' '$(DESTDIR)$(LIBDIR)' '$(DESTDIR)$(PKGCONFIGDIR)'
 	$(INSTALL) -m 644 include/zsermulat.h '$(DESTDIR)$(INCLUDEDIR)/zsermulat.h'
 	$(INSTALL) -m 644 $(ARCHIVE) '$(DESTDIR)$(LIBDIR)/libzsermulat.a'
-	sed -e 's|@INCLUDEDIR@|$(INCLUDEDIR)|' -e 's|@LIBDIR@|$(LIBDIR)|' -e 's|@VERSION@|$(VERSION)|' zsermulat.pc.in \
+	sed -e 's|@PREFIX@|$(PREFIX)|' -e 's|@INCLUDEDIR@|$(INCLUDEDIR)|' -e 's|@LIBDIR@|$(LIBDIR)|' -e 's|@VERSION@|$(VERSION)|' zsermulat.pc.in \
 	    >'$(DESTDIR)$(PKGCONFIGDIR)/zsermulat.pc'
 	chmod 644 '$(DESTDIR)$(PKGCONFIGDIR)/zsermulat.pc'
 

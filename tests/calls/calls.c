@@ -1,16 +1,18 @@
-/* Makes the calls that standard input asks for, by zsermulat.h alone, and prints every answer, element and byte.
- * A line is one of these, its words separated by one space:
+/* Makes the calls that standard input asks for, by zsermulat.h alone, and prints every answer,
+ * element and byte. A line is one of these, its words separated by one space:
  *   title WORDS               echoed
  *   base E E.., check E E..   sets an array, of as many elements as there are
- *   fill N B C                sets both arrays: N elements, B in each of base and C in each of check
+ *   fill N B C                sets both arrays: N elements, each B in base and C in check
  *   keep, back                remembers both arrays; brings them back
  *   fresh, find KEY, insert KEY ROW, delete KEY, compact N, audit, list ROOM, run ROOM SHEET
  *                             makes a call; KEY and SHEET are bytes in hexadecimal, or - for none
- *   every LENGTH V V..        makes a battery of calls on every pair of arrays of that length over these values
- * Each array, key, sheet and buffer that is lent ends at a page that cannot be touched, and what lies before it in its
- * own page is looked at after the call, as is all that was lent to be read. With the argument malloc each is instead
- * exactly as long as needed, for a memory checker. Status 1: something has changed or was touched that may not. Status
- * 2: a line that is none of these. At its end it says on standard error how many calls it made. */
+ *   every LENGTH V V..        makes a battery of calls on every pair of arrays of that length over
+ *                             these values
+ * Each array, key, sheet and buffer that is lent ends at a page that cannot be touched, and what
+ * lies before it in its own page is looked at after the call, as is all that was lent to be read.
+ * With the argument malloc each is instead exactly as long as needed, for a memory checker.
+ * Status 1: something has changed or was touched that may not. Status 2: a line that is none of
+ * these. At its end it says on standard error how many calls it made. */
 #include "zsermulat.h"
 
 #include <errno.h>
@@ -106,7 +108,8 @@ static void take(struct lent *to, const struct lent *from) {
     copy(to->at, from->at, from->length);
 }
 
-/* Looks at what lies before it, where each byte has to be as the first one, and at itself if it was lent to be read. */
+/* Looks at what lies before it, where each byte has to be as the first one, and at itself if it was
+ * lent to be read. */
 static void look(const struct lent *it, bool read) {
     size_t length = exact ? 0 : before(it);
     const uint8_t *first = it->at - length;

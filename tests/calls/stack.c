@@ -1,6 +1,7 @@
-/* Makes each call on the deepest tables that there can be, in a thread whose stack is as small as the header says, and
- * prints how much of it the call has used. A call that needs more ends the program: behind the stack lies a page that
- * cannot be touched. usage: stack KILOBYTES KILOBYTES-FOR-LIST
+/* Makes each call on the deepest tables that there can be, in a thread with a small stack, and
+ * prints how much of it the calls have used. A call that needs more ends the program: behind the
+ * stack lies a page that cannot be touched.
+ * usage: stack KILOBYTES KILOBYTES-FOR-LIST
  */
 #include "zsermulat.h"
 #include <pthread.h>
@@ -92,7 +93,7 @@ static size_t used_by(void *(*work)(void *), size_t size) {
 }
 
 static size_t stack, stack_for_list;
-static size_t most[9];
+static size_t most[8];
 static const char *const names[] = {"fresh",   "find",  "insert", "delete",
                                     "compact", "audit", "list",   "run"};
 static void *(*const calls[])(void *) = {fresh, find, insert, erase, compact, audit, list, run};
@@ -112,8 +113,8 @@ static void make(int call, int number) {
 
 /* ---- the tables */
 
-/* An identifier of 32 characters: a beginning of one character, so many of it, then one of another, then the first
- * again. */
+/* An identifier of 32 times one character, but for another one at a place; at place 32 there is
+ * none. */
 static void spell(char character, size_t place, char other) {
     memset(key, character, LONGEST);
     if (place < LONGEST)
@@ -129,9 +130,9 @@ static void put_line(int operation, uint32_t number) {
     sheet_length += (size_t)at;
 }
 
-/* All calls on a table that holds one identifier of 32 times the last character, and then its branches: at each of its
- * nodes every other character leads to as long an identifier, so that nodes at every depth have 37 children, and
- * children move from below the deepest ones. */
+/* All calls on a table that holds one identifier of 32 times a character, and then on one with its
+ * branches: at each of its nodes every other character leads on to an identifier as long. So nodes
+ * at every depth have 37 children, and an insertion below any of them moves some. */
 static void try_all(char character) {
     static const char others[] = "abcdefghijklmnopqrstuvwxyz0123456789-";
     size_t place, i;
@@ -167,7 +168,7 @@ static void try_all(char character) {
     make(LIST, ZS_DONE);
 }
 
-/* Tables are filled to the last cell, so that the last label of a long branch finds no room and all of it is taken
+/* A table is filled until the last labels of a long branch find no room, and all of it is taken
  * back. */
 static void fill(void) {
     size_t i;
@@ -193,6 +194,8 @@ int main(int count, char **words) {
     try_all('a');
     fill();
     for (call = 0; call < CALLS; call++)
-        printf("%s: at most %lu bytes of stack\n", names[call], (unsigned long)most[call]);
+        printf("%s: at most %lu bytes of stack, in a thread of %lu KB\n", names[call],
+               (unsigned long)most[call],
+               (unsigned long)(call == LIST ? stack_for_list : stack) / 1024);
     return 0;
 }

@@ -1,10 +1,10 @@
-/* Makes calls in several threads at once, as the header allows: each thread edits a table of its own, and all of them read one
- * that they share. Every one has to come to the same answers and the same tables as one thread alone.
+/* Makes calls in several threads at once, as the header allows: each thread edits a table of its
+ * own, and all of them read one that they share. Every one has to come to the same answers and the
+ * same table as one thread alone.
  */
 #include "zsermulat.h"
 #include <pthread.h>
 #include <stdio.h>
-#include <stdlib.h>
 #include <string.h>
 
 enum { THREADS = 8, ROUNDS = 3, LENGTH = 2000, KEYS = 300 };
@@ -44,7 +44,7 @@ static zs_answer find(const table *t, int n) {
     return zs_find(t->base, LENGTH, t->check, LENGTH, (const uint8_t *)key, length);
 }
 
-/* Fills a table, with lookups in the shared one between; deletes every third; lists the shared one. */
+/* Fills a table, with lookups in the shared one between; deletes every third; lists the shared. */
 static void *labour(void *place) {
     work *w = place;
     int round, n;

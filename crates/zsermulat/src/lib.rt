@@ -22,6 +22,8 @@ fn pack(a: Answer) -> u64
     a.number() as u64 * PLACE + a.value() as u64
 }
 
+// Each of these is the call of `index` that has its name; include/zsermulat.h says in C's words what it answers.
+
 #[no_mangle]
 pub extern "C" fn zs_fresh(base: &mut [i32], check: &mut [i32]) -> u64
     ensures { λ r. ⌜ EditsPacked (freshCall document01 (now (base .entry)) (now (check .entry))) r (now (base .exit)) (now (check .exit)) ⌝ }
