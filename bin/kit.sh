@@ -1,6 +1,6 @@
 # For the commands in this folder, which source it: where the kit is, and a checksum of all that is proved.
 # It needs `top`, the project's folder, and `fail`; it sets `home`, the kit's folder, and `tools`, those for this machine.
-# shellcheck shell=bash
+# shellcheck shell=bash disable=SC2154
 
 # The kit is where rt finds it. What belongs to one kind of machine stands below on/.
 if [ -n "${RATTLE_HOME:-}" ]; then
