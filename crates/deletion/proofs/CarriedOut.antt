@@ -23,7 +23,8 @@ use Rattle.cells.specs.Edits.{Shown}
 use Rattle.tree.proofs.Outcomes.{stored-done, stored-refused}
 use Rattle.finding.specs.Reaching.{LooksUp}
 use Rattle.finding.proofs.KnownSound.{row-held, node-held}
-use Rattle.deletion.specs.Deleting.{Deletes, Removes, Steps, Moved}
+use Rattle.compaction.specs.Lowering.{Steps, Moved}
+use Rattle.deletion.specs.Deleting.{Deletes, Removes}
 
 pub sound-steps : {base check : List ℤ} → sound document01 base check ≡ true → Steps base check (readTable base check)
 sound-steps {base} {check} whole = let r = rules-render document01 base check whole in record { shown = sound-shows r; whole = r .table }

@@ -16,7 +16,9 @@ use Rattle.tree.proofs.Pruning.{less-tree, parent-stays, parent-based}
 use Rattle.tree.proofs.Deletion.{leaf, leaf-step, leaf-childless, prune-leaf, cut, cut-now}
 use Rattle.cells.specs.Edits.{Shown, celled, holding, Releases}
 use Rattle.cells.proofs.Shown.{shown-base}
-use Rattle.deletion.specs.Deleting.{Removes, Prunes, Steps, Moved}
+use Rattle.pruning.specs.Parents.{Prunes}
+use Rattle.compaction.specs.Lowering.{Steps, Moved}
+use Rattle.deletion.specs.Deleting.{Removes}
 
 module _ {base check : List ℤ} {s : ℕ} {key : List ℕ} {t : Table} (r : Removes base check s key t) where
   abbrev characters : List ℕ

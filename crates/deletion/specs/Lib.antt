@@ -1,2 +1,2 @@
--- What the parts of a deletion and of a compaction are asked, and what they leave.
+-- What the parts of a deletion are asked.
 pub mod Deleting

@@ -14,12 +14,6 @@ ghost use Rattle.rules.specs.Promised.{Edits};
 ghost use Rattle.cells.specs.Edits.{Shown, SomeTable, EveryTable};
 ghost use Rattle.deletion.specs.Deleting.{Deletes, Removes};
 
-// The parents that a deletion leaves without a child.
-pub mod pruning;
-
-// Compaction's steps.
-pub mod compaction;
-
 // Deletes an identifier: ABSENT, or done with the row removed.
 pub fn delete(base: &mut [i32], check: &mut [i32], key: &[u8]) -> Answer
     requires { ⌜ Deletes (now base) (now check) (now key) ⌝ }

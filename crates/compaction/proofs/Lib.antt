@@ -1,0 +1,2 @@
+-- A compaction: one step, and steps in a row.
+mod Compacting

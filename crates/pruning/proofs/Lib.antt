@@ -1,0 +1,2 @@
+-- The cells that become free.
+mod FreedCells
