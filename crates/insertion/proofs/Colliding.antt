@@ -27,10 +27,11 @@ use Rattle.tree.proofs.ThereAndBack.{fit-back, relocate-back}
 use Rattle.tree.proofs.Collisions.{collide-fit, collide-tree, collide-base, collide-place}
 use Rattle.cells.specs.Edits.{Shown, sized, celled, Widens, Shrinks}
 use Rattle.moving.specs.Children.{Relocates}
-use Rattle.insertion.specs.Inserting.{growth, relocated, MovesAndGrows, Grows, Grown}
+use Rattle.growing.specs.Branches.{growth, Grows, Grown}
+use Rattle.insertion.specs.Inserting.{relocated, MovesAndGrows}
 use Rattle.cells.proofs.Shown.{shown-small, shown-size, shown-base}
 use Rattle.insertion.proofs.Extending.{s-inside}
-use Rattle.insertion.proofs.Leaving.{fits-left, unfit-left, left-fits, left-unfit}
+use Rattle.growing.proofs.Leaving.{fits-left, unfit-left, left-fits, left-unfit}
 
 module _ {base check : List ℤ} {s : ℕ} {rest : List ℕ} {row q far : ℕ} {codes : List ℕ} {t : Table}
     (m : MovesAndGrows base check s rest row q far codes t) where

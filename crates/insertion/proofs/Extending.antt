@@ -21,9 +21,11 @@ use Rattle.tree.proofs.UsedCells.{parent-used, parentless-unused}
 use Rattle.tree.proofs.Trees.{based-pos, based-inside}
 use Rattle.tree.proofs.Branches.{grow-count}
 use Rattle.moving.specs.Children.{Collects, Collected}
-use Rattle.insertion.specs.Inserting.{growth, collision, extension, Extends, PlacesAnew, Grows, Grown, Extended}
+use Rattle.growing.specs.Branches.{growth, Grows, Grown}
+use Rattle.insertion.specs.Inserting.{collision, extension, Extends, PlacesAnew, Extended}
 use Rattle.cells.proofs.Shown.{shown-base, shown-parent}
-use Rattle.insertion.proofs.Leaving.{fits-left, unfit-left, done, no-room}
+use Rattle.growing.proofs.Leaving.{fits-left, unfit-left}
+use Rattle.insertion.proofs.DoneOrNoRoom.{done, no-room}
 
 module _ {base check : List ℤ} {s : ℕ} {rest : List ℕ} {row : ℕ} {t : Table} (e : Extends base check s rest row t) where
   abbrev T : Cells

@@ -1,7 +1,6 @@
--- An insertion: what its course leaves, and the node at which it begins.
+-- An insertion: what is answered to its course, and the node at which it begins.
 mod Beginning
-mod Leaving
-mod Growing
+mod DoneOrNoRoom
 mod Colliding
 mod PlacingAnew
 mod Extending

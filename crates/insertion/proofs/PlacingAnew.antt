@@ -26,9 +26,11 @@ use Rattle.tree.proofs.Trees.{past-unused}
 use Rattle.tree.proofs.Placement.{greatest-within, placed-within}
 use Rattle.tree.proofs.ChildCodes.{codes-lead}
 use Rattle.placing.specs.Search.{Codes}
-use Rattle.insertion.specs.Inserting.{growth, collision, relocated, PlacesAnew, MovesAndGrows, Grown, Extended}
+use Rattle.growing.specs.Branches.{growth, Grown}
+use Rattle.insertion.specs.Inserting.{collision, relocated, PlacesAnew, MovesAndGrows, Extended}
 use Rattle.cells.proofs.Shown.{shown-small}
-use Rattle.insertion.proofs.Leaving.{fits-left, unfit-left, done, no-room}
+use Rattle.growing.proofs.Leaving.{fits-left, unfit-left}
+use Rattle.insertion.proofs.DoneOrNoRoom.{done, no-room}
 
 -- Behind the first of some codes.
 behind-first : (c : ℕ) (cs : List ℕ) → behind (c ∷ cs) ≡ cs

@@ -1,38 +1,29 @@
 -- What the parts of an insertion are asked, and what they leave.
 use mathlib.Core.Path.{_≡_}
-use mathlib.Core.Logic.{_≢_}
-use mathlib.Core.Bool.{Bool, true, false, cond}
+use mathlib.Core.Bool.{true, cond}
 use mathlib.Core.List.{List, _∷_}
-use Prim.Native.Nat.{ℕ, _+_, _≤_, _<_, max}
+use Prim.Native.Nat.{ℕ, _+_, _≤_, max}
 use lib.IntN.{ℤ}
 use Rattle.rules.specs.declared.Answer.{Answer}
 use Rattle.rules.specs.declared.Answer.the-variants.{Done, NoRoom}
 use Rattle.rules.specs.WhatTheIndexDoes.{GREATEST, document01, isIdentifier, isRow, lastCell}
-use Rattle.rules.specs.Table.{Table, free, used, next, childCodes}
+use Rattle.rules.specs.Table.{Table, used, next, childCodes}
 use Rattle.rules.specs.ASoundTable.{sound}
 use Rattle.rules.specs.Placement.{greatestOf, placed}
-use Rattle.rules.specs.Insertion.{relocate, Course, grow, collide, extend}
+use Rattle.rules.specs.Insertion.{relocate, Course, collide, extend}
 use Rattle.tree.specs.Soundness.{Tree}
 use Rattle.tree.specs.Labels.{firstLabel, furtherLabels}
-use Rattle.cells.specs.Edits.{Shown, celled, sized, holding}
-
--- What `label` gives: the first label, not past the greatest.
-pub record Label (rest : List ℕ) (r : ℕ) : Type 0 where
-  pub is : r ≡ firstLabel document01 rest
-  pub small : r ≤ GREATEST
+use Rattle.cells.specs.Edits.{Shown, celled, sized}
+use Rattle.growing.specs.Branches.{leaves}
 
 -- ---- courses, from the node s with what is left of an identifier
 
 module _ (last : ℕ) (t : Table) (s : ℕ) (rest : List ℕ) (row : ℕ) where
-  -- The label's cell is unused, and each further label gets its placed base.
-  abbrev pub growth : Course
-  growth = grow last (t .cells) (t .size) s (firstLabel document01 rest) (furtherLabels document01 rest) row
-
   -- The node collides.
   abbrev pub collision : Course
   collision = collide document01 last (t .cells) (t .size) s (firstLabel document01 rest) (furtherLabels document01 rest) row
 
-  -- One or the other.
+  -- It collides, or the rest grows from it.
   abbrev pub extension : Course
   extension = extend document01 last (t .cells) (t .size) s (firstLabel document01 rest) (furtherLabels document01 rest) row
 
@@ -67,45 +58,13 @@ pub record MovesAndGrows (base check : List ℤ) (s : ℕ) (rest : List ℕ) (ro
   pub far-is : far ≡ q + greatestOf (firstLabel document01 rest ∷ codes)
   pub fits : far ≤ lastCell base
 
--- That the rest of an identifier grow from the node s, whose base leads to an unused cell for its first label.
-pub record Grows (base check : List ℤ) (s : ℕ) (rest : List ℕ) (row : ℕ) (t : Table) : Type 0 where
-  pub shown : Shown base check t
-  pub some : 1 ≤ s
-  pub inside : s ≤ t .size
-  pub based : 1 ≤ t .cells s .base
-  pub unused : used (t .cells) (t .cells s .base + firstLabel document01 rest) ≡ false
-  pub fits : t .cells s .base + firstLabel document01 rest ≤ lastCell base
-  pub row-is : isRow row ≡ true
-
--- That the cell u become free and the size fall to n.
-pub record Retracts (base check : List ℤ) (u n : ℕ) (t : Table) : Type 0 where
-  pub shown : Shown base check t
-  pub far : 2 ≤ u
-  pub parent : 1 ≤ t .cells u .parent
-  pub some : 1 ≤ n
-  pub less : n ≤ t .size
-  pub past : (v : ℕ) → n < v → v ≢ u → used (t .cells) v ≡ false
-
 -- ---- what is left
 
 -- The children of s at base q, and a size that includes the cell far.
 abbrev pub relocated : Table → ℕ → ℕ → ℕ → Table
 relocated t s q far = celled (sized t (max (t .size) far)) (relocate (t .cells) s q)
 
--- The table without the cell u, of size n.
-abbrev pub retracted : Table → ℕ → ℕ → Table
-retracted t u n = sized (holding t u free) n
-
--- What a course that began with t leaves: its table where each placement fits, otherwise t.
-abbrev pub leaves : Course → Table → Table
-leaves course t = cond (course .fitted) (course .table) t
-
--- Whether the course fits, and the rendering of what it leaves.
-pub record Grown (course : Course) (t : Table) (r : Bool) (base check : List ℤ) : Type 0 where
-  pub fitted : r ≡ course .fitted
-  pub left : Shown base check (leaves course t)
-
--- The answer to it, and the rendering of what it leaves.
+-- The answer to a course, and the rendering of what it leaves.
 pub record Extended (course : Course) (t : Table) (r : Answer) (base check : List ℤ) : Type 0 where
   pub answer : r ≡ cond (course .fitted) (Done (course .count)) NoRoom
   pub left : Shown base check (leaves course t)

@@ -8,9 +8,10 @@ ghost use Rattle.rules.specs.WhatTheIndexDoes.{document01, lastCell};
 ghost use Rattle.rules.specs.Commands.{insert};
 ghost use Rattle.rules.specs.Rendering.{chained};
 ghost use Rattle.rules.specs.Calls.{soundEdit};
-ghost use Rattle.cells.specs.Edits.{Shown, SomeTable, EveryTable};
+ghost use Rattle.cells.specs.Edits.{SomeTable, EveryTable};
 ghost use Rattle.rules.specs.Promised.{Edits};
-ghost use Rattle.insertion.specs.Inserting.{Inserts, Extends, PlacesAnew, MovesAndGrows, Grows, Retracts, Label, growth, collision, extension, relocated, retracted, Extended, Grown};
+ghost use Rattle.growing.specs.Branches.{growth, Grown};
+ghost use Rattle.insertion.specs.Inserting.{Inserts, Extends, PlacesAnew, MovesAndGrows, collision, extension, relocated, Extended};
 
 // Inserts an identifier: PRESENT, NO ROOM, or done with the number of children that changed cell.
 pub fn insert(base: &mut [i32], check: &mut [i32], key: &[u8], row: Row) -> Answer
@@ -32,14 +33,14 @@ fn extend(base: &mut [i32], check: &mut [i32], s: Cell, rest: &[u8], row: Row) -
     requires { ⌜ SomeTable (Extends (now base) (now check) (s .0) (now rest) (row .0)) ⌝ }
     ensures { λ r. ⌜ EveryTable (Extends (now (base .entry)) (now (check .entry)) (s .0) (now (rest .entry)) (row .0)) (λ t. Extended (extension (lastCell (now (base .entry))) t (s .0) (now (rest .entry)) (row .0)) t r (now (base .exit)) (now (check .exit))) ⌝ }
 {
-    let u = numbers::plus_at(base, s.0) + label(rest);
+    let u = numbers::plus_at(base, s.0) + growing::label(rest);
     if base.len() <= u {
         return collide(base, check, s, rest, row);
     }
     if 0 < numbers::plus_at(check, u) {
         return collide(base, check, s, rest, row);
     }
-    if grow(base, check, s, rest, row) {
+    if growing::grow(base, check, s, rest, row) {
         Answer::Done(0)
     } else {
         Answer::NoRoom
@@ -52,7 +53,7 @@ fn collide(base: &mut [i32], check: &mut [i32], s: Cell, rest: &[u8], row: Row) 
     ensures { λ r. ⌜ EveryTable (Extends (now (base .entry)) (now (check .entry)) (s .0) (now (rest .entry)) (row .0)) (λ t. Extended (collision (lastCell (now (base .entry))) t (s .0) (now (rest .entry)) (row .0)) t r (now (base .exit)) (now (check .exit))) ⌝ }
 {
     let mut codes = [0; Alphabet::GREATEST + 1];
-    let n = moving::collect(base, check, s, label(rest), &mut codes);
+    let n = moving::collect(base, check, s, growing::label(rest), &mut codes);
     place_anew(base, check, s, rest, row, &codes[..n])
 }
 
@@ -99,59 +100,10 @@ fn move_and_grow(
     let b = numbers::plus_at(base, s.0);
     cells::widen(base, check, far);
     moving::relocate(base, check, s, q, codes);
-    if grow(base, check, s, rest, row) {
+    if growing::grow(base, check, s, rest, row) {
         return true;
     }
     moving::relocate(base, check, s, b, codes);
     cells::shrink(base, check, size);
     false
-}
-
-// From the node s, whose base leads to an unused cell for the first label of the rest: that cell is then used, and each further
-// label gets the placed base of its one code at the node before it. Gives whether all of them fit; where one does not, nothing
-// has changed.
-fn grow(base: &mut [i32], check: &mut [i32], s: Cell, rest: &[u8], row: Row) -> bool
-    requires { ⌜ SomeTable (Grows (now base) (now check) (s .0) (now rest) (row .0)) ⌝ }
-    ensures { λ r. ⌜ EveryTable (Grows (now (base .entry)) (now (check .entry)) (s .0) (now (rest .entry)) (row .0)) (λ t. Grown (growth (lastCell (now (base .entry))) t (s .0) (now (rest .entry)) (row .0)) t r (now (base .exit)) (now (check .exit))) ⌝ }
-{
-    let size = numbers::plus_at(base, 0);
-    let u = numbers::plus_at(base, s.0) + label(rest);
-    cells::claim(base, check, Cell(u), s);
-    if rest.len() == 0 {
-        cells::put_row(base, Cell(u), row);
-        return true;
-    }
-    let further = &rest[1..];
-    let c = label(further);
-    let q = placing::place(base, check, &[c]);
-    if base.len() <= q + c {
-        retract(base, check, Cell(u), size);
-        return false;
-    }
-    numbers::put_plus(base, u, q);
-    if grow(base, check, Cell(u), further, row) {
-        return true;
-    }
-    retract(base, check, Cell(u), size);
-    false
-}
-
-// Takes the claimed cell u back, and the size to what it was.
-fn retract(base: &mut [i32], check: &mut [i32], u: Cell, size: usize)
-    requires { ⌜ SomeTable (Retracts (now base) (now check) (u .0) size) ⌝ }
-    ensures { λ _. ⌜ EveryTable (Retracts (now (base .entry)) (now (check .entry)) (u .0) size) (λ t. Shown (now (base .exit)) (now (check .exit)) (retracted t (u .0) size)) ⌝ }
-{
-    cells::release(base, check, u);
-    cells::shrink(base, check, size);
-}
-
-// The first label of what is left of an identifier: the code of its first character, or the end mark.
-fn label(rest: &[u8]) -> usize
-    ensures { λ r. ⌜ Label (now (rest .entry)) r ⌝ }
-{
-    if rest.len() == 0 {
-        Alphabet::END
-    } else {
-        Alphabet::code(rest[0])
-    }
 }

@@ -2,7 +2,8 @@
 use native.Mathlib.Omega.{arith}
 use borrow.Author.Needs.{needs}
 use Rattle.rules.specs.Table.{Table}
-use Rattle.insertion.specs.Inserting.{Extends, Grows}
+use Rattle.growing.specs.Branches.{Grows}
+use Rattle.insertion.specs.Inserting.{Extends}
 use Rattle.insertion.proofs.Extending.{collides-past, collides-taken, grows, grown-done, grown-none}
 use Rattle.insertion.proofs.extend.Statement.{statement}
 use Rattle.insertion.proofs.extend.Tie as tie

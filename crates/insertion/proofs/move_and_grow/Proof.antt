@@ -5,7 +5,8 @@ use borrow.Author.Needs.{needs}
 use Rattle.rules.specs.WhatTheIndexDoes.{lastCell}
 use Rattle.rules.specs.Table.{Table}
 use Rattle.cells.specs.Edits.{Shown, sized, Shrinks}
-use Rattle.insertion.specs.Inserting.{growth, relocated, MovesAndGrows, Grown}
+use Rattle.growing.specs.Branches.{growth, Grown}
+use Rattle.insertion.specs.Inserting.{relocated, MovesAndGrows}
 use Rattle.insertion.proofs.Colliding.{widens, there, grows, back, shrinks, of-course, all-fit, moved-still, all-back}
 use Rattle.insertion.proofs.move_and_grow.Statement.{statement}
 use Rattle.insertion.proofs.move_and_grow.Tie as tie

@@ -4,8 +4,8 @@ use native.Mathlib.Omega.{arith}
 use borrow.Author.Needs.{needs}
 use Rattle.rules.specs.WhatTheIndexDoes.{document01}
 use Rattle.tree.proofs.Labels.{first-none, first-some}
-use Rattle.insertion.proofs.label.Statement.{statement}
-use Rattle.insertion.proofs.label.Tie as tie
+use Rattle.growing.proofs.label.Statement.{statement}
+use Rattle.growing.proofs.label.Tie as tie
 
 shared-slice-read-code : tie.Need-shared-slice-read-code
 shared-slice-read-code c = search needs

@@ -26,7 +26,7 @@ use Rattle.tree.proofs.OneCell.{update-at, update-off}
 use Rattle.tree.proofs.Branches.{parent-same}
 use Rattle.tree.proofs.Labels.{further-none, further-some}
 use Rattle.cells.specs.Edits.{Shown, EveryTable, celled, holding, more, claimed, Claims}
-use Rattle.insertion.specs.Inserting.{Grows, Grown, Retracts, growth, retracted}
+use Rattle.growing.specs.Branches.{Grows, Grown, Retracts, growth, retracted}
 use Rattle.cells.proofs.Shown.{shown-small}
 use Rattle.cells.proofs.Holding.{held-each, base-stored}
 

@@ -10,10 +10,10 @@ use borrow.Author.Tests.{ne-eqb}
 use borrow.Author.Needs.{needs}
 use Rattle.rules.specs.Table.{Table, free, used}
 use Rattle.cells.specs.Edits.{Shown, EveryTable, holding, Shrinks, Releases}
-use Rattle.insertion.specs.Inserting.{Retracts}
+use Rattle.growing.specs.Branches.{Retracts}
 use Rattle.cells.proofs.Holding.{held-each}
-use Rattle.insertion.proofs.retract.Statement.{statement}
-use Rattle.insertion.proofs.retract.Tie as tie
+use Rattle.growing.proofs.retract.Statement.{statement}
+use Rattle.growing.proofs.retract.Tie as tie
 
 module _ {base check : List ℤ} {u n : ℕ} {t : Table} (r : Retracts base check u n t) where
   releases : Releases base check u t

@@ -3,11 +3,10 @@ use mathlib.Core.Path.{_≡_, sym, _∙_}
 use mathlib.Core.Bool.{Bool, true, false}
 use mathlib.Core.List.{List}
 use lib.IntN.{ℤ}
-use Rattle.rules.specs.declared.Answer.the-variants.{Done, NoRoom}
 use Rattle.rules.specs.Table.{Table}
 use Rattle.rules.specs.Insertion.{Course}
 use Rattle.cells.specs.Edits.{Shown}
-use Rattle.insertion.specs.Inserting.{Grown, Extended}
+use Rattle.growing.specs.Branches.{Grown}
 
 module _ {course : Course} {t : Table} {base check : List ℤ} where
   -- ---- what a growth said
@@ -26,9 +25,3 @@ module _ {course : Course} {t : Table} {base check : List ℤ} where
 
   pub left-unfit : course .fitted ≡ false → Shown base check t → Grown course t false base check
   left-unfit f s = record { fitted = sym f; left = rw f s }
-
-  pub done : course .fitted ≡ true → Shown base check (course .table) → Extended course t (Done (course .count)) base check
-  done f s = record { answer = rw f; left = rw f s }
-
-  pub no-room : course .fitted ≡ false → Shown base check t → Extended course t NoRoom base check
-  no-room f s = record { answer = rw f; left = rw f s }

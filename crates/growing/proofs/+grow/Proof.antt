@@ -16,22 +16,22 @@ use Rattle.rules.proofs.Texts.{behind, first-and-rest}
 use Rattle.tree.specs.Labels.{firstLabel}
 use Rattle.placing.specs.Search.{Codes}
 use Rattle.cells.specs.Edits.{Shown, more}
-use Rattle.insertion.specs.Inserting.{Grows}
+use Rattle.growing.specs.Branches.{Grows}
 use Rattle.cells.proofs.Shown.{shown-size, shown-base}
 use Rattle.cells.proofs.Placed.{searches, finds-placed}
-use Rattle.insertion.proofs.Growing.{grow-claims, Begun, Goes, grow-ended, grow-retracts, grow-retracted, placed-small, grow-past, grow-onward, grow-fitted, grow-left, grow-unfitted}
-use Rattle.insertion.proofs.grow.Reads as grow
-use Rattle.insertion.proofs.grow.Kinds as kinds
-use Rattle.insertion.proofs.+grow.Lts-grow as lts
+use Rattle.growing.proofs.Growing.{grow-claims, Begun, Goes, grow-ended, grow-retracts, grow-retracted, placed-small, grow-past, grow-onward, grow-fitted, grow-left, grow-unfitted}
+use Rattle.growing.proofs.grow.Reads as grow
+use Rattle.growing.proofs.grow.Kinds as kinds
+use Rattle.growing.proofs.+grow.Lts-grow as lts
 use Rattle.cells.proofs.claim.Reads as claim
-use Rattle.insertion.proofs.label.Reads as label
-use Rattle.insertion.proofs.retract.Reads as retract
+use Rattle.growing.proofs.label.Reads as label
+use Rattle.growing.proofs.retract.Reads as retract
 use Rattle.placing.proofs.place.Reads as place
 use Rattle.numbers.proofs.plus_at.Reads as plus-at
 use Rattle.cells.proofs.put_row.Reads as put-row
 use Rattle.numbers.proofs.put_plus.Reads as put-plus
-use Rattle.insertion.proofs.+grow.{statement}
-use Rattle.insertion.proofs.+grow.Tie.{close}
+use Rattle.growing.proofs.+grow.{statement}
+use Rattle.growing.proofs.+grow.Tie.{close}
 
 one-code : {d : ℕ} → d ≤ GREATEST → Codes (d ∷ [])
 one-code {d} h = record { some = omega arith; small = λ c m. ⊎-elim (λ (e : c ≡ d). rw e h) (λ z. absurd z) m }

@@ -1,0 +1,2 @@
+-- What those who put a branch below a node are asked, and what they leave.
+pub mod Branches
