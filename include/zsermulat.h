@@ -18,7 +18,7 @@
  *     it (zs_find, zs_audit, zs_list) may run side by side. The library keeps nothing of its own.
  *   - Of the stack zs_fresh and zs_find need less than 1 KB, zs_list at most 424 KB (so much where
  *     long identifiers have characters late in the alphabet), the others at most 132 KB. This is
- *     measured, not proved. They take no other memory.
+ *     measured, not proved. They take no other memory, and of the C library they need memset alone.
  *
  * The archive for x86-64 is what the prover's kit compiles. The one for aarch64 is the same proved
  * module, compiled for another machine, which the kit does not promise; it passes the same tests.
