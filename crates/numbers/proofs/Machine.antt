@@ -2,18 +2,19 @@
 use mathlib.Core.Path.{_≡_, refl, sym, ap, subst, _∙_}
 use mathlib.Core.Logic.{_≢_, ⊎-elim}
 use mathlib.Core.Bool.{true, false}
-use Prim.Native.Nat.{ℕ, zero, suc, _≤_}
+use Prim.Native.Nat.{ℕ, zero, suc, _+_, _≤_}
 use native.Mathlib.Omega.{arith}
 use lib.IntN.{ℤ, pos, negsuc, negℤ, natAbs, _-ℤ_, +ℤ-idl}
 use lib.Signed.{ltZ, leZ, nonNeg, natAbs-le}
-use lib.Dec.{T, eqb, leb·zero, leb·suc-zero}
+use lib.Bits.{bitOr, or-add-and, and-le-l, and-le-r}
+use lib.Dec.{T, leb, eqb, leb·zero, leb·suc-zero}
 use borrow.Author.Tests.{eq-eqb, ne-eqb}
 use mir.Syntax.{w32, w64}
 use mir.Val.{Fits, SFits, toZ, ofZ}
 use mir.Facts.{toZ-ofZ, sfits-widen, toZ-pos}
 use Rattle.numbers.proofs.Cases.{same?}
-use Rattle.numbers.proofs.Laws.{plus-is}
-use Rattle.numbers.specs.Stored.{negative, plusOf, minusOf, greatestStored, Reads}
+use Rattle.numbers.proofs.Laws.{plus-is, sides}
+use Rattle.numbers.specs.Stored.{negative, plusOf, minusOf, awayOf, greatestStored, Reads}
 
 -- ---- 0 or more
 
@@ -29,7 +30,19 @@ pub upper-not : (x : ℤ) → leZ (pos 0) x ≡ false → Reads (plusOf x) 0
 upper-not (pos n) e = absurd (subst T e (subst T (sym (leb·zero n)) tt))
 upper-not (negsuc n) e = record { is = refl; small = omega arith }
 
+pub is-above : (x : ℤ) → ltZ (pos 0) x ≡ leb 1 (plusOf x)
+is-above (pos n) = refl
+is-above (negsuc n) = refl
+
+pub known-above : (x : ℤ) → 1 ≤ plusOf x → leZ (pos 0) x ≡ true
+known-above (pos n) h = leb·zero n
+known-above (negsuc n) h = absurd (omega arith)
+
 -- ---- below 0
+
+pub known-below : (x : ℤ) → 1 ≤ minusOf x → ltZ x (pos 0) ≡ true
+known-below (pos n) h = absurd (omega arith)
+known-below (negsuc n) h = refl
 
 pub lower-fits : (x : ℤ) → SFits w32 x → ltZ x (pos 0) ≡ true → T (nonNeg (negℤ x)) × Fits w64 (natAbs (negℤ x))
 lower-fits (pos n) f e = absurd (subst T (leb·suc-zero n) (subst T (sym e) tt))
@@ -85,3 +98,27 @@ module _ (x : ℤ) (n : ℕ) (fits : SFits w32 x) (low : 1 ≤ n) (high : n ≤ 
       (λ (e : plusOf x ≡ n). eq-eqb _ _ (ap (ofZ w32) (plus-is x e low)) ∙ sym (eq-eqb (plusOf x) n e))
       (λ (d : plusOf x ≢ n). ne-eqb _ _ (bits-differ d) ∙ sym (ne-eqb (plusOf x) n d))
       (same? (plusOf x) n)
+
+-- ---- two numbers are tested together
+
+or-nought : (a b : ℕ) → bitOr a b ≡ 0 → (a ≡ 0) × (b ≡ 0)
+or-nought a b e = let s = or-add-and a b in (omega (arith, s, e, and-le-r a b), omega (arith, s, e, and-le-l a b))
+
+nought-is : (x : ℤ) → awayOf x ≡ 0 → x ≡ pos 0
+nought-is x e = sides x (pos 0) (omega (arith, e)) (omega (arith, e))
+
+bits-nought : (x : ℤ) → SFits w32 x → ofZ w32 x ≡ 0 → awayOf x ≡ 0
+bits-nought x f e = ap awayOf (sym (toZ-ofZ f) ∙ ap (toZ w32) e)
+
+module _ (x y : ℤ) (f : SFits w32 x) (g : SFits w32 y) where
+  one-away : awayOf x + awayOf y ≢ 0 → bitOr (ofZ w32 x) (ofZ w32 y) ≢ 0
+  one-away d e = let (a, b) = or-nought (ofZ w32 x) (ofZ w32 y) e in d (omega (arith, bits-nought x f a, bits-nought y g b))
+
+  both-nought : awayOf x + awayOf y ≡ 0 → bitOr (ofZ w32 x) (ofZ w32 y) ≡ 0
+  both-nought e = rw (nought-is x (omega arith), nought-is y (omega arith)) refl
+
+  pub or-bits : eqb (bitOr (ofZ w32 x) (ofZ w32 y)) 0 ≡ eqb (awayOf x + awayOf y) 0
+  or-bits = ⊎-elim
+      (λ (e : awayOf x + awayOf y ≡ 0). eq-eqb _ _ (both-nought e) ∙ sym (eq-eqb _ _ e))
+      (λ (d : awayOf x + awayOf y ≢ 0). ne-eqb _ _ (one-away d) ∙ sym (ne-eqb _ _ d))
+      (same? (awayOf x + awayOf y) 0)

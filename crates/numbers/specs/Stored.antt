@@ -2,7 +2,7 @@
 -- and written as `positive n` or `negative n`; nobody there looks at its sign.
 use mathlib.Core.Path.{_≡_}
 use mathlib.Core.List.{List}
-use Prim.Native.Nat.{ℕ, zero, suc, _≤_}
+use Prim.Native.Nat.{ℕ, zero, suc, _+_, _≤_}
 use lib.ListN.{getD}
 use lib.IntN.{ℤ, pos, negsuc}
 
@@ -32,6 +32,14 @@ plusAt xs i = plusOf (getD xs i (pos 0))
 -- `minusOf` the element i, and 0 past the end.
 abbrev pub minusAt : List ℤ → ℕ → ℕ
 minusAt xs i = minusOf (getD xs i (pos 0))
+
+-- How far a number is from 0.
+abbrev pub awayOf : ℤ → ℕ
+awayOf z = plusOf z + minusOf z
+
+-- `awayOf` the element i, and 0 past the end.
+abbrev pub awayAt : List ℤ → ℕ → ℕ
+awayAt xs i = awayOf (getD xs i (pos 0))
 
 -- The greatest number that an i32 holds on both sides of 0.
 abbrev pub greatestStored : ℕ

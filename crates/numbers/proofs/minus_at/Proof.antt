@@ -2,27 +2,19 @@
 use mathlib.Core.Path.{refl}
 use borrow.Author.Needs.{needs}
 use native.Mathlib.Omega.{arith}
-use mir.Facts.{toZ-ofZ}
 use Rattle.numbers.proofs.Laws.{reads-past}
 use Rattle.numbers.specs.Stored.{minusOf}
 use Rattle.numbers.proofs.minus_at.Statement.{statement}
 use Rattle.numbers.proofs.minus_at.Tie as tie
 
-mul-minus : tie.Need-mul-minus
-mul-minus c = search needs
-
-shared-slice-copy-out-minus : tie.Need-shared-slice-copy-out-minus
-shared-slice-copy-out-minus c = search needs
-
-minus-requires : tie.Need-minus-requires
-minus-requires c κs = search needs
+minus-in-requires : tie.Need-minus-in-requires
+minus-in-requires c κs = search needs
 
 returns : tie.Need-returns
-returns c = rw (toZ-ofZ (record { sfits = c .before .minus-arg .given })) at (c .minus .ensures)
+returns c = c .minus-in .ensures
 
 returns-2 : tie.Need-returns-2
 returns-2 c = reads-past minusOf refl (c .before .args .s .now) (c .before .args .i) (omega arith)
 
 pub minus-at-spec : {M : Type 1} → statement M
-minus-at-spec =
-    tie.close (tie.spec mul-minus shared-slice-copy-out-minus minus-requires returns returns-2)
+minus-at-spec = tie.close (tie.spec minus-in-requires returns returns-2)
