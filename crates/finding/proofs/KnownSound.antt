@@ -17,15 +17,18 @@ use Rattle.tree.proofs.Finding.{reached-node, found-row}
 use Rattle.finding.specs.Reaching.{LooksUp}
 
 module _ (base check : List ℤ) (whole : sound document01 base check ≡ true) where
+  pub lengths : (2 ≤ length base) × (length base ≤ 65536)
+  lengths = lengths-within base check (rules-render document01 base check whole .lengths)
+
   pub long : length base ≤ 65536
-  long = lengths-within base check (rules-render document01 base check whole .lengths) .1
+  long = lengths .1
 
   module _ (key : List ℕ) (identifier : isIdentifier document01 key ≡ true) {cell met n : ℕ} (l : LooksUp base check key cell met n) where
     coded-key : coded document01 key ≡ true
     coded-key = identifier-coded document01 key identifier
 
     pub row-held : lookup document01 (readCells base check) key ≡ n
-    row-held = sym (l .row-is ∙ found-row document01 base check whole key coded-key)
+    row-held = sym (l .row-is coded-key ∙ found-row document01 base check whole key coded-key)
 
     pub node-held : 1 ≤ n → node (readCells base check) (reverse (map codeOf key)) ≡ cell
-    node-held h = reached-node (rules-render document01 base check whole) key coded-key (rw (l .row-is) at h) ∙ sym (l .reaches .cell-is)
+    node-held h = reached-node (rules-render document01 base check whole) key coded-key (rw (l .row-is coded-key) at h) ∙ sym (l .walked .reaches coded-key .cell-is)

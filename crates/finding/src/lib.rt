@@ -6,13 +6,11 @@ use rules::Cell;
 use rules::Row;
 ghost use Prim.Native.Nat.{_≤_, _<_};
 ghost use mathlib.Core.Path.{_≡_};
-ghost use mathlib.Core.List.{map};
 ghost use lib.Dec.{leb};
 ghost use lib.ListN.{length, getD};
-ghost use Rattle.rules.specs.WhatTheIndexDoes.{GREATEST, codeOf, document01};
-ghost use Rattle.rules.specs.Answers.{foundOrAbsent};
-ghost use Rattle.rules.specs.Finding.{nextAt, walkAt, leafAfter, rowOf, rowFound};
-ghost use Rattle.finding.specs.Reaching.{Reaches, LooksUp};
+ghost use Rattle.rules.specs.WhatTheIndexDoes.{GREATEST};
+ghost use Rattle.rules.specs.Finding.{nextAt, leafAfter, rowOf};
+ghost use Rattle.finding.specs.Reaching.{stepAt, Walked, LooksUp, rowOrKey};
 
 // Where a walk stopped, and how many characters were found.
 pub struct Reached {
@@ -27,12 +25,21 @@ pub struct Looked {
     pub row: Row,
 }
 
-// The row of an identifier, or ABSENT.
+// Looks a text up: KEY where it is no identifier, ABSENT, or done with the row. The characters that the walk met have codes, so that
+// only what is left is asked for them.
 pub fn row(base: &[i32], check: &[i32], key: &[u8]) -> Answer
-    requires { ⌜ length (now base) ≤ 65536 ⌝ }
-    ensures { λ r. ⌜ r ≡ foundOrAbsent (rowFound (now (base .entry)) (now (check .entry)) document01 (now (key .entry))) ⌝ }
+    requires { ⌜ (2 ≤ length (now base)) × (length (now base) ≤ 65536) ⌝ }
+    ensures { λ r. ⌜ r ≡ rowOrKey (now (base .entry)) (now (check .entry)) (now (key .entry)) ⌝ }
 {
-    let row = look_up(base, check, key).row;
+    if !rules::is_right_length(key) {
+        return Answer::Key;
+    }
+    let looked = look_up(base, check, key);
+    let met = looked.met;
+    if !rules::is_coded(&key[met..]) {
+        return Answer::Key;
+    }
+    let row = looked.row;
     if row.0 == 0 {
         Answer::Absent
     } else {
@@ -40,9 +47,9 @@ pub fn row(base: &[i32], check: &[i32], key: &[u8]) -> Answer
     }
 }
 
-// Looks an identifier up: the walk, and the row after its end mark.
+// The walk along a text, and the row after its end mark.
 pub fn look_up(base: &[i32], check: &[i32], key: &[u8]) -> Looked
-    requires { ⌜ length (now base) ≤ 65536 ⌝ }
+    requires { ⌜ (2 ≤ length (now base)) × (length (now base) ≤ 65536) ⌝ }
     ensures { λ r. ⌜ LooksUp (now (base .entry)) (now (check .entry)) (now (key .entry)) (r .cell .0) (r .met) (r .row .0) ⌝ }
 {
     let reached = walk(base, check, key);
@@ -52,10 +59,10 @@ pub fn look_up(base: &[i32], check: &[i32], key: &[u8]) -> Looked
     Looked { cell, met, row }
 }
 
-// The walk from the root along an identifier's characters.
+// The walk from the root along a text's characters. It stops at one that has no code or leads nowhere.
 fn walk(base: &[i32], check: &[i32], key: &[u8]) -> Reached
-    requires { ⌜ length (now base) ≤ 65536 ⌝ }
-    ensures { λ r. ⌜ Reaches (walkAt (now (base .entry)) (now (check .entry)) 1 (map codeOf (now (key .entry)))) (r .cell .0) (r .met) ⌝ }
+    requires { ⌜ (2 ≤ length (now base)) × (length (now base) ≤ 65536) ⌝ }
+    ensures { λ r. ⌜ Walked (now (base .entry)) (now (check .entry)) (now (key .entry)) (r .cell .0) (r .met) ⌝ }
 {
     let mut rest = key;
     let mut cell = Cell(1);
@@ -84,13 +91,19 @@ fn held(base: &[i32], check: &[i32], characters: usize, reached: Reached) -> Row
     row_of(base, leaf)
 }
 
-// The cell to which the first character of the rest leads from the cell reached, or cell 0.
+// The cell to which the first character of the rest leads from the cell reached, or cell 0: a character without a code leads
+// nowhere.
 fn step(base: &[i32], check: &[i32], rest: &[u8], reached: Cell) -> Cell
     requires { ⌜ 0 < length (now rest) ⌝ }
+    requires { ⌜ (1 ≤ reached .0) × (reached .0 < length (now base)) ⌝ }
     requires { ⌜ length (now base) ≤ 65536 ⌝ }
-    ensures { λ r. ⌜ r .0 ≡ nextAt (now (base .entry)) (now (check .entry)) (reached .0) (codeOf (getD (now (rest .entry)) 0 0)) ⌝ }
+    ensures { λ r. ⌜ r .0 ≡ stepAt (now (base .entry)) (now (check .entry)) (reached .0) (getD (now (rest .entry)) 0 0) ⌝ }
 {
-    next(base, check, reached, Alphabet::code(rest[0]))
+    let code = Alphabet::code(rest[0]);
+    if code == 0 {
+        return Cell(0);
+    }
+    next_within(base, check, reached, code)
 }
 
 // The cell to which a label leads from s, or cell 0.
@@ -99,11 +112,24 @@ pub fn next(base: &[i32], check: &[i32], s: Cell, code: usize) -> Cell
     requires { ⌜ length (now base) ≤ 65536 ⌝ }
     ensures { λ r. ⌜ r .0 ≡ nextAt (now (base .entry)) (now (check .entry)) (s .0) code ⌝ }
 {
-    let at = s.0;
-    if at == 0 {
+    if s.0 == 0 {
         return Cell(0);
     }
-    let q = numbers::plus_at(base, at);
+    if is_past(base, s) {
+        return Cell(0);
+    }
+    next_within(base, check, s, code)
+}
+
+// The same from a cell that is known to be one of the arrays': the walk comes to no other.
+fn next_within(base: &[i32], check: &[i32], s: Cell, code: usize) -> Cell
+    requires { ⌜ code ≤ GREATEST ⌝ }
+    requires { ⌜ (1 ≤ s .0) × (s .0 < length (now base)) ⌝ }
+    requires { ⌜ length (now base) ≤ 65536 ⌝ }
+    ensures { λ r. ⌜ r .0 ≡ nextAt (now (base .entry)) (now (check .entry)) (s .0) code ⌝ }
+{
+    let at = s.0;
+    let q = numbers::plus_in(base, at);
     if q == 0 {
         return Cell(0);
     }

@@ -4,9 +4,7 @@ use mathlib.Core.Path.{_≡_, refl, sym, _∙_}
 use mathlib.Core.Bool.{Bool, true, false, cond}
 use mathlib.Core.List.{List}
 use Prim.Native.Nat.{ℕ, _-_, _≤_}
-use native.Mathlib.Omega.{arith}
-use lib.ListN.{length, take, drop, length-drop}
-use lib.Seq.{take-all}
+use lib.ListN.{length, take, drop}
 use lib.IntN.{ℤ}
 use borrow.Author.Tests.{lt-ltb}
 use Rattle.rules.specs.declared.Answer.{Answer}
@@ -21,6 +19,7 @@ use Rattle.rules.specs.Commands.{Outcome, insert, carriedOut}
 use Rattle.rules.specs.Calls.{stored, soundEdit}
 use Rattle.rules.specs.Promised.{Edits}
 use Rattle.rules.proofs.Codes.{document01-round-trip}
+use Rattle.rules.proofs.Texts.{part-left}
 use Rattle.tree.specs.Renders.{Renders}
 use Rattle.tree.proofs.ChildCodes.{based-near}
 use Rattle.tree.proofs.Labels.{label-low}
@@ -33,10 +32,6 @@ use Rattle.finding.specs.Reaching.{LooksUp}
 use Rattle.finding.proofs.RowFound.{reached-is}
 use Rattle.finding.proofs.KnownSound.{row-held}
 use Rattle.insertion.specs.Inserting.{extension, Inserts, Extends, Extended}
-
--- What is left of a text, as a part of its slice.
-part-left : (key : List ℕ) (m : ℕ) → take (length key - m) (drop m key) ≡ drop m key
-part-left key m = take-all (length key - m) (drop m key) (omega (arith, length-drop m key))
 
 module _ {base check : List ℤ} {key : List ℕ} {row : ℕ} (i : Inserts base check key row) where
   abbrev t : Table
@@ -67,8 +62,8 @@ module _ {base check : List ℤ} {key : List ℕ} {row : ℕ} (i : Inserts base 
     module _ (z : n ≡ 0) where
       stops : Stops renders (lastCell base) row 1 key (record { cell = cell; met = met })
       unfolding readTable rowFound leafAt
-      stops = rw (reached-is (w .reaches)) (walk-begins renders document01-round-trip (lastCell base) row 1 key coded-key (renders .table .tree .root-base)
-          (leaf-none renders (length key) _ (sym (w .row-is) ∙ z)))
+      stops = rw (reached-is (w .walked .reaches coded-key)) (walk-begins renders document01-round-trip (lastCell base) row 1 key coded-key (renders .table .tree .root-base)
+          (leaf-none renders (length key) _ (sym (w .row-is coded-key) ∙ z)))
 
       abbrev rest : List ℕ
       rest = take (length key - met) (drop met key)

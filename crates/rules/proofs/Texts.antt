@@ -4,7 +4,7 @@ use mathlib.Core.Path.{_≡_, refl, sym, ap}
 use mathlib.Core.List.{List, [], _∷_}
 use Prim.Native.Nat.{ℕ, zero, suc, _-_, _≤_, _<_}
 use native.Mathlib.Omega.{arith}
-use lib.ListN.{length, getD, take, drop}
+use lib.ListN.{length, getD, take, drop, length-drop}
 use lib.Seq.{take-all, take-nil}
 
 -- The part of a slice behind its first element.
@@ -18,6 +18,10 @@ first-and-rest (b ∷ bs) h = ap (λ (r : List ℕ). b ∷ r) (sym (take-all (le
 pub none-left : (text : List ℕ) → length text ≤ 0 → text ≡ []
 none-left [] h = refl
 none-left (b ∷ bs) h = absurd (omega arith)
+
+-- What is left of a text, as a part of its slice.
+pub part-left : (key : List ℕ) (m : ℕ) → take (length key - m) (drop m key) ≡ drop m key
+part-left key m = take-all (length key - m) (drop m key) (omega (arith, length-drop m key))
 
 -- What is behind the first i of the first e.
 pub drop-take : (i e : ℕ) (text : List ℕ) → drop i (take e text) ≡ take (e - i) (drop i text)

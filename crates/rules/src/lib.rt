@@ -1,6 +1,8 @@
 // Document 01's types (rows and cells, kept apart, the alphabet of label codes, what a call answers) and the tests of lengths,
 // identifiers and rows that the calls ask. What the document says of them stands in specs/, a file for each of its sections.
 ghost use mathlib.Core.Path.{_≡_};
+ghost use lib.ListN.{length};
+ghost use Rattle.rules.specs.Ranges.{within};
 ghost use Rattle.rules.specs.WhatTheIndexDoes.{Code, characterOf, document01, rightLengths, isIdentifier, coded, isRow};
 ghost use Rattle.rules.specs.Answers.{number, value};
 
@@ -73,17 +75,24 @@ pub fn right_lengths(base: &[i32], check: &[i32]) -> bool
 pub fn is_identifier(key: &[u8]) -> bool
     ensures { λ r. ⌜ r ≡ isIdentifier document01 (now (key .entry)) ⌝ }
 {
-    if key.len() == 0 {
-        return false;
-    }
-    if LIMIT < key.len() {
+    if !is_right_length(key) {
         return false;
     }
     is_coded(key)
 }
 
+// Whether it has as many characters as an identifier: 1 to 32.
+pub fn is_right_length(key: &[u8]) -> bool
+    ensures { λ r. ⌜ r ≡ within 1 (document01 .limit) (length (now (key .entry))) ⌝ }
+{
+    if key.len() == 0 {
+        return false;
+    }
+    key.len() <= LIMIT
+}
+
 // Whether each character has a code.
-fn is_coded(key: &[u8]) -> bool
+pub fn is_coded(key: &[u8]) -> bool
     ensures { λ r. ⌜ r ≡ coded document01 (now (key .entry)) ⌝ }
 {
     let mut rest = key;

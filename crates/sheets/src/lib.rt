@@ -110,14 +110,11 @@ fn delete(base: &mut [i32], check: &mut [i32], key: &[u8]) -> Answer
     deletion::delete(base, check, key)
 }
 
-// A line's lookup: KEY, then the walk.
+// A line's lookup.
 fn find(base: &[i32], check: &[i32], key: &[u8]) -> Answer
     requires { ⌜ sound document01 (now base) (now check) ≡ true ⌝ }
     ensures { λ r. ⌜ Edits (lineEdit (now (base .entry)) (now (check .entry)) (some (find (now (key .entry))))) r (now (base .entry)) (now (check .entry)) ⌝ }
 {
-    if !rules::is_identifier(key) {
-        return Answer::Key;
-    }
     finding::row(base, check, key)
 }
 

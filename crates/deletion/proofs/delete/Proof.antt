@@ -1,13 +1,13 @@
 -- `delete` looks the identifier up; it answers ABSENT, or removes it. Assumes nothing.
 use native.Mathlib.Omega.{arith}
 use borrow.Author.Needs.{needs}
-use Rattle.finding.proofs.KnownSound.{long}
+use Rattle.finding.proofs.KnownSound.{lengths}
 use Rattle.deletion.proofs.CarriedOut.{is-absent, removes, is-removed}
 use Rattle.deletion.proofs.delete.Statement.{statement}
 use Rattle.deletion.proofs.delete.Tie as tie
 
 look-up-requires : tie.Need-look-up-requires
-look-up-requires c κs = long _ _ (c .before .before .before .pre .whole)
+look-up-requires c κs = lengths _ _ (c .before .before .before .pre .whole)
 
 abbrev entry : tie.After-look-up → tie.Start
 entry l = l .before .before .before .before

@@ -1,4 +1,4 @@
--- `look_up` walks along the identifier, and gives the row after the end mark too. Assumes nothing.
+-- `look_up` walks along the text, and gives the row after the end mark too. Assumes nothing.
 use borrow.Author.Needs.{needs}
 use Rattle.finding.proofs.RowFound.{row-reached}
 use Rattle.finding.proofs.look_up.Statement.{statement}
@@ -14,7 +14,7 @@ returns : tie.Need-returns
 returns c =
     let h = c .before in
     let w = h .before .walk .ensures in
-    record { reaches = w; row-is = row-reached _ _ _ w (h .held .ensures) }
+    record { walked = w; row-is = λ k. row-reached _ _ _ (w .reaches k) (h .held .ensures) }
 
 pub look-up-spec : {M : Type 1} → statement M
 look-up-spec = tie.close (tie.spec walk-requires held-requires returns)

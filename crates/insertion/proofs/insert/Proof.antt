@@ -3,13 +3,13 @@ use Prim.Native.Nat.{_≤_}
 use native.Mathlib.Omega.{arith}
 use lib.ListN.{length}
 use borrow.Author.Needs.{needs}
-use Rattle.finding.proofs.KnownSound.{long}
+use Rattle.finding.proofs.KnownSound.{lengths}
 use Rattle.insertion.proofs.Beginning.{is-present, met-within, extends, is-carried-out}
 use Rattle.insertion.proofs.insert.Statement.{statement}
 use Rattle.insertion.proofs.insert.Tie as tie
 
 look-up-requires : tie.Need-look-up-requires
-look-up-requires c κs = long _ _ (c .before .before .before .pre .whole)
+look-up-requires c κs = lengths _ _ (c .before .before .before .pre .whole)
 
 abbrev entry : tie.After-look-up → tie.Start
 entry l = l .before .before .before .before
