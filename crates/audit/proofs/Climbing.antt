@@ -23,6 +23,10 @@ pub record Climbing (check : List ℤ) (t steps at : ℕ) : Type 0 where
   pub rises : (k : ℕ) → home check (k + steps) t ≡ home check k at
   pub deep : (d : ℕ) → Depth check at d → Depth check t (d + steps)
 
+-- A used cell other than the root has a parent.
+pub used-parent : (check : List ℤ) (t : ℕ) → Used check t → 2 ≤ t → 1 ≤ plusAt check t
+used-parent check t u far = ⊎-elim (λ e. absurd (omega arith)) (λ h. h) u
+
 module _ {check : List ℤ} where
   pub climb-start : {t : ℕ} → 1 ≤ t → Used check t → Climbing check t 0 t
   climb-start h u = record { low = h; used = u; rises = λ k. rw add-zero; deep = λ d f. rw add-zero f }
@@ -31,7 +35,7 @@ module _ {check : List ℤ} where
       Climbing check t (steps + 1) p
   climb-on {t} {steps} {at} closed w far is =
       let other : at ≢ 1 = (λ e. omega arith) in
-      let parent : 1 ≤ plusAt check at = ⊎-elim (λ e. absurd (other e)) (λ h. h) (w .used) in rw is (record {
+      let parent = used-parent check at (w .used) far in rw is (record {
         low = parent;
         used = closed at far parent;
         rises = λ k. ap (λ n. home check n t) (omega arith) ∙ w .rises (suc k) ∙ home-up check k at other;

@@ -1,10 +1,10 @@
 -- Laws of a yes or no and what it is about. Assumes nothing.
 use mathlib.Core.Path.{_≡_, refl, sym, _∙_}
 use mathlib.Core.Bool.{Bool, true, false, not, true≢false}
-use Prim.Native.Nat.{ℕ, _<_}
-use native.Mathlib.Nat.{not-le-of-lt}
-use lib.Dec.{ltb, eqb}
-use borrow.Author.Tests.{eqb-true, eqb-false, ltb-true, ltb-false, not-true, not-false}
+use Prim.Native.Nat.{ℕ, _≤_}
+use native.Mathlib.Omega.{arith}
+use lib.Dec.{leb, eqb}
+use borrow.Author.Tests.{eqb-true, eqb-false, leb-true, leb-false, not-true, not-false}
 use Rattle.rules.proofs.Choices.{fails}
 use Rattle.audit.specs.Says.{Says}
 
@@ -29,12 +29,30 @@ module _ {A : Type 0} where
 
 -- ---- tests
 
-module _ (a b : ℕ) where
-  pub says-same : Says (a ≡ b) (eqb a b)
-  says-same = record { yes = eqb-true a b; no = eqb-false a b }
+pub says-same : (a b : ℕ) → Says (a ≡ b) (eqb a b)
+says-same a b = record { yes = eqb-true a b; no = eqb-false a b }
 
-  pub says-less : Says (a < b) (ltb a b)
-  says-less = record { yes = ltb-true a b; no = λ e h. not-le-of-lt h (ltb-false a b e) }
+-- A number that is 0 and is not.
+pub clash : {n : ℕ} → n ≡ 0 → 1 ≤ n → ⊥
+clash e h = omega arith
+
+-- An answer that equals the test whether n is not 0.
+module _ {n : ℕ} (r : Bool) (is : r ≡ leb 1 n) where
+  pub tested-some : r ≡ true → 1 ≤ n
+  tested-some e = leb-true 1 n (sym is ∙ e)
+
+  pub tested-none : r ≡ false → n ≡ 0
+  tested-none e = let h = leb-false 1 n (sym is ∙ e) in omega arith
+
+  -- After `if !r`.
+  pub denied-some : not r ≡ true → n ≡ 0
+  denied-some e = tested-none (not-true r e)
+
+  pub granted-some : not r ≡ false → 1 ≤ n
+  granted-some e = tested-some (not-false r e)
+
+  pub says-some : Says (1 ≤ n) r
+  says-some = record { yes = tested-some; no = λ e h. let z = tested-none e in omega arith }
 
 -- An answer that equals a test says whether the test passes, and the other way round.
 pub says-as : {r s : Bool} → r ≡ s → Says (s ≡ true) r

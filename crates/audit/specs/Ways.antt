@@ -65,8 +65,9 @@ pub record FirstLook (base check : List ℤ) (size : ℕ) (parents : List Bool) 
   pub marks : MarksPast base check size parents
   pub notes : NotedBelow check size 2 depths
 
--- What is known before they are looked at for the second time: every parent is used and marked.
+-- What is known before they are looked at for the second time: the arrays have one length, and every parent is used and marked.
 pub record SecondLook (base check : List ℤ) (size : ℕ) (parents : List Bool) (depths : List ℕ) : Type 0 where
+  pub same : length base ≡ length check
   pub sized : Sized base size
   pub closed : Closed check
   pub marks : MarksPast base check 1 parents

@@ -1,5 +1,5 @@
-// Rules 1 to 7 of document 01, decided on arrays of any contents. Every read of the arrays is total, so that no number met
-// there leads outside them. Each cell is looked at twice, and the climbs to the root share their upper parts.
+// Rules 1 to 7 of document 01, decided on arrays of any contents. No number met there leads outside them: a cell is read where it is
+// known to lie within. Each cell is looked at twice, and the climbs to the root share their upper parts.
 use rules::Alphabet;
 use rules::Cell;
 ghost use mathlib.Core.Path.{_≡_};
@@ -85,14 +85,12 @@ fn are_rules_kept(
 // Rule 1: whether every cell past the size is 0 in both arrays.
 fn is_past_nought(base: &[i32], check: &[i32], size: usize) -> bool
     requires { ⌜ Sized (now base) size ⌝ }
+    requires { ⌜ length (now base) ≡ length (now check) ⌝ }
     ensures { λ r. ⌜ Says (PastNought (now (base .entry)) (now (check .entry))) r ⌝ }
 {
     let mut t = base.len() - 1;
     while size < t {
-        if !is_nought(base, Cell(t)) {
-            return false;
-        }
-        if !is_nought(check, Cell(t)) {
+        if !numbers::are_nought_in(base, check, t) {
             return false;
         }
         t -= 1;
@@ -114,6 +112,7 @@ fn is_nought(s: &[i32], t: Cell) -> bool
 // looked at downwards, so that the next greater free cell is the one met last. Each parent is marked on the way.
 fn are_cells_kept(base: &[i32], check: &[i32], size: usize, parents: &mut [bool]) -> bool
     requires { ⌜ Sized (now base) size ⌝ }
+    requires { ⌜ length (now base) ≡ length (now check) ⌝ }
     requires { ⌜ MarksPast (now base) (now check) size (now parents) ⌝ }
     ensures { λ r. ⌜ CellsMarked document01 (now (base .entry)) (now (check .entry)) (now (parents .exit)) r ⌝ }
 {
@@ -122,17 +121,17 @@ fn are_cells_kept(base: &[i32], check: &[i32], size: usize, parents: &mut [bool]
     while 1 < left {
         let t = left;
         left -= 1;
-        let parent = numbers::plus_at(check, t);
-        if parent == 0 {
-            if !is_free_kept(base, check, Cell(t), Cell(next)) {
-                return false;
-            }
-            next = t;
-        } else {
+        if numbers::is_plus_in(check, t) {
+            let parent = numbers::known_plus(check, t);
             if !is_used_kept(base, size, Cell(t), Cell(parent)) {
                 return false;
             }
             parents[parent] = true;
+        } else {
+            if !is_free_kept(base, check, Cell(t), Cell(next)) {
+                return false;
+            }
+            next = t;
         }
     }
     numbers::minus_at(check, 0) == next
@@ -152,16 +151,17 @@ fn is_free_kept(base: &[i32], check: &[i32], t: Cell, next: Cell) -> bool
 // parent. A parent up to the size that has a positive base is used, for a free cell's base is 0; that it is another cell
 // follows from the climb.
 fn is_used_kept(base: &[i32], size: usize, t: Cell, parent: Cell) -> bool
-    requires { ⌜ size ≡ sizeAt (now base) ⌝ }
+    requires { ⌜ Sized (now base) size ⌝ }
+    requires { ⌜ t .0 ≤ size ⌝ }
     ensures { λ r. ⌜ Says (UsedKept document01 (now (base .entry)) (t .0) (parent .0)) r ⌝ }
 {
     if size < parent.0 {
         return false;
     }
-    let q = numbers::plus_at(base, parent.0);
-    if q == 0 {
+    if !numbers::is_plus_in(base, parent.0) {
         return false;
     }
+    let q = numbers::known_plus(base, parent.0);
     if t.0 <= q {
         return false;
     }
@@ -173,9 +173,9 @@ fn is_used_kept(base: &[i32], size: usize, t: Cell, parent: Cell) -> bool
         if parent.0 == 1 {
             return false;
         }
-        return rules::is_row(numbers::minus_at(base, t.0));
+        return rules::is_row(numbers::minus_in(base, t.0));
     }
-    0 < numbers::plus_at(base, t.0)
+    numbers::is_plus_in(base, t.0)
 }
 
 // Rule 4, where every parent is marked.
@@ -213,7 +213,7 @@ fn are_ways_kept(
     let mut t = 1;
     while t < size {
         t += 1;
-        if 0 < numbers::plus_at(check, t) {
+        if numbers::is_plus_in(check, t) {
             if !has_fruit(base, parents, Cell(t)) {
                 return false;
             }
@@ -229,13 +229,13 @@ fn are_ways_kept(
 
 // Whether a cell has a mark, if it has a positive base.
 fn has_fruit(base: &[i32], parents: &[bool], t: Cell) -> bool
-    requires { ⌜ t .0 < length (now parents) ⌝ }
+    requires { ⌜ (t .0 < length (now base)) × (t .0 < length (now parents)) ⌝ }
     ensures { λ r. ⌜ Says (1 ≤ plusAt (now (base .entry)) (t .0) → marked (now (parents .entry)) (t .0) ≡ true) r ⌝ }
 {
-    if numbers::plus_at(base, t.0) == 0 {
+    let at = t.0;
+    if !numbers::is_plus_in(base, at) {
         return true;
     }
-    let at = t.0;
     parents[at]
 }
 
@@ -245,13 +245,13 @@ fn climb(check: &[i32], depths: &[u8], t: Cell) -> usize
     ensures { λ r. ⌜ Climbed document01 (now (check .entry)) (t .0) r ⌝ }
 {
     let from = t.0;
-    let mut at = numbers::plus_at(check, from);
+    let mut at = numbers::known_plus(check, from);
     let mut steps = 1;
     while from <= at {
         if steps == rules::LIMIT + 1 {
             return 0;
         }
-        at = numbers::plus_at(check, at);
+        at = numbers::known_plus(check, at);
         steps += 1;
     }
     let depth = depths[at] as usize + steps;

@@ -15,7 +15,7 @@ use Rattle.rules.specs.WhatTheIndexDoes.{document01}
 use Rattle.rules.specs.ASoundTable.{sizeAt, nextFreeAt}
 use Rattle.audit.specs.Kept.{Sized, FreeKept, UsedKept, CellKept, KeptPast, CellsKept}
 use Rattle.audit.specs.Marks.{MarksPast, CellsMarked}
-use Rattle.audit.proofs.Says.{says-no, says-too, says-same, said-no, said-yes}
+use Rattle.audit.proofs.Says.{says-no, says-too, says-same, said-no, said-yes, tested-some, tested-none}
 use Rattle.audit.proofs.Downwards.{past-less}
 use Rattle.audit.proofs.NextFree.{next-free-past, next-free-last, next-free-here, next-free-on}
 use Rattle.audit.proofs.Marks.{mark-none, mark-parent}
@@ -111,37 +111,67 @@ add-next : tie.Need-add-next Inv-loop μ-loop
 add-next c = omega arith
 
 loop-holds : tie.Need-loop-holds Inv-loop μ-loop
-loop-holds c = (start (c .before .pre .0) (c .before .pre .1), refl)
+loop-holds c = (start (c .before .pre .0) (c .before .pre .1 .1), refl)
 
 sub-left : tie.Need-sub-left Inv-loop μ-loop
 sub-left c = omega arith
 
-plus-at-requires : tie.Need-plus-at-requires Inv-loop μ-loop
-plus-at-requires c κs = tt
+is-plus-in-requires : tie.Need-is-plus-in-requires Inv-loop μ-loop
+is-plus-in-requires c κs =
+    let p = c .before .before .before .pre in
+    omega (arith, c .before .loop .inv .0 .high, p .0 .is, p .0 .fits, p .1 .0)
 
-is-free-kept-requires : tie.Need-is-free-kept-requires Inv-loop μ-loop
-is-free-kept-requires c κs = tt
+known-plus-requires : tie.Need-known-plus-requires Inv-loop μ-loop
+known-plus-requires c κs = tested-some _ (c .before .is-plus-in .ensures) (c .if1 .taken)
+
+-- A used cell's parent, as it was read.
+module _ (c : tie.After-known-plus Inv-loop μ-loop) where
+  abbrev cell : tie.In-loop Inv-loop μ-loop
+  cell = c .before .before .before
+
+  abbrev parent : ℕ
+  parent = plusAt (cell .before .before .before .args .check .now) (cell .before .loop .left)
+
+  parent-is : c .known-plus .result ≡ parent
+  parent-is = c .known-plus .ensures .is
+
+  parent-some : 1 ≤ c .known-plus .result
+  parent-some = rw parent-is (tested-some _ (c .before .before .is-plus-in .ensures) (c .before .if1 .taken))
+
+-- A cell that is not used has none.
+unused : (c : tie.Else1 Inv-loop μ-loop) → let l = c .before .before in plusAt (l .before .before .before .args .check .now) (l .before .loop .left) ≡ 0
+unused c = tested-none _ (c .before .is-plus-in .ensures) (c .if1 .left)
+
+is-used-kept-requires : tie.Need-is-used-kept-requires Inv-loop μ-loop
+is-used-kept-requires c κs =
+    let l = c .before .before .before in
+    let p = l .before .before .before .pre .0 in
+    (p, omega (arith, l .before .loop .inv .0 .high, p .is))
 
 same-length : tie.Need-same-length Inv-loop μ-loop
 same-length c = omega arith
 
 returns : tie.Need-returns Inv-loop μ-loop
 returns c =
-    let l = c .before .before .before .before in
-    not-all (free-not (l .before .loop .inv .0) (l .loop-test .taken) (omega arith)
-    (said-no _ (c .before .is-free-kept .ensures) (c .if2 .taken)))
+    let l = c .before .before .before .before .before in
+    not-all (used-not (l .before .loop .inv .0) (l .loop-test .taken) (parent-is (c .before .before)) (parent-some (c .before .before))
+    (said-no _ (c .before .is-used-kept .ensures) (c .if2 .taken)))
+
+slice-write-parents : tie.Need-slice-write-parents Inv-loop μ-loop
+slice-write-parents c = let u = said-yes _ (c .before .is-used-kept .ensures) (c .if2 .left) in omega arith
 
 loop-less : tie.Need-loop-less Inv-loop μ-loop
 loop-less c = omega arith
 
 loop-again : tie.Need-loop-again Inv-loop μ-loop
 loop-again c =
-    let l = c .before .before .before .before in
+    let l = c .before .before .before .before .before in
     let w = l .before .loop .inv in
-    (free-step (w .0) (l .loop-test .taken) (omega arith) (said-yes _ (c .before .is-free-kept .ensures) (c .if2 .left)), w .1)
+    let u = said-yes _ (c .before .is-used-kept .ensures) (c .if2 .left) in
+    (used-step (w .0) (l .loop-test .taken) (parent-is (c .before .before)) (parent-some (c .before .before)) u, simp length-set (w .1))
 
-is-used-kept-requires : tie.Need-is-used-kept-requires Inv-loop μ-loop
-is-used-kept-requires c κs = c .before .before .before .before .before .pre .0 .is
+is-free-kept-requires : tie.Need-is-free-kept-requires Inv-loop μ-loop
+is-free-kept-requires c κs = tt
 
 same-length-2 : tie.Need-same-length-2 Inv-loop μ-loop
 same-length-2 c = omega arith
@@ -149,12 +179,8 @@ same-length-2 c = omega arith
 returns-2 : tie.Need-returns-2 Inv-loop μ-loop
 returns-2 c =
     let l = c .before .before .before .before in
-    let p = c .before .before .before .plus-at .ensures .is in
-    not-all (used-not (l .before .loop .inv .0) (l .loop-test .taken) p (omega arith)
-    (said-no _ (c .before .is-used-kept .ensures) (c .if3 .taken)))
-
-slice-write-parents : tie.Need-slice-write-parents Inv-loop μ-loop
-slice-write-parents c = let u = said-yes _ (c .before .is-used-kept .ensures) (c .if3 .left) in omega arith
+    not-all (free-not (l .before .loop .inv .0) (l .loop-test .taken) (unused (c .before .before))
+    (said-no _ (c .before .is-free-kept .ensures) (c .if3 .taken)))
 
 loop-less-2 : tie.Need-loop-less-2 Inv-loop μ-loop
 loop-less-2 c = omega arith
@@ -163,9 +189,7 @@ loop-again-2 : tie.Need-loop-again-2 Inv-loop μ-loop
 loop-again-2 c =
     let l = c .before .before .before .before in
     let w = l .before .loop .inv in
-    let p = c .before .before .before .plus-at .ensures .is in
-    let u = said-yes _ (c .before .is-used-kept .ensures) (c .if3 .left) in
-    (used-step (w .0) (l .loop-test .taken) p (omega arith) u, simp length-set (w .1))
+    (free-step (w .0) (l .loop-test .taken) (unused (c .before .before)) (said-yes _ (c .before .is-free-kept .ensures) (c .if3 .left)), w .1)
 
 minus-at-requires : tie.Need-minus-at-requires Inv-loop μ-loop
 minus-at-requires c κs = tt
@@ -185,16 +209,17 @@ are-cells-kept-spec =
     add-next
     loop-holds
     sub-left
-    plus-at-requires
-    is-free-kept-requires
+    is-plus-in-requires
+    known-plus-requires
+    is-used-kept-requires
     same-length
     returns
+    slice-write-parents
     loop-less
     loop-again
-    is-used-kept-requires
+    is-free-kept-requires
     same-length-2
     returns-2
-    slice-write-parents
     loop-less-2
     loop-again-2
     minus-at-requires

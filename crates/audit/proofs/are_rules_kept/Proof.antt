@@ -9,6 +9,7 @@ use borrow.Author.Tests.{not-false}
 use Rattle.rules.specs.WhatTheIndexDoes.{document01}
 use Rattle.rules.specs.ASoundTable.{sizeAt, sound}
 use Rattle.rules.proofs.Choices.{was-yes}
+use Rattle.rules.proofs.Lengths.{lengths-same}
 use Rattle.audit.specs.Kept.{FirstKept, CellsKept}
 use Rattle.audit.specs.Marks.{MarksPast}
 use Rattle.audit.specs.Ways.{WaysUpTo}
@@ -48,7 +49,9 @@ all-sound c = let e = c .before .before .before in kept-sound (first e) (cells e
 -- ---- the answers
 
 are-cells-kept-requires : tie.Need-are-cells-kept-requires
-are-cells-kept-requires c κs = search needs
+are-cells-kept-requires c κs =
+    let p = c .before .before .before .pre in
+    (p .first .sized, (lengths-same _ _ (p .first .lengths), p .marks))
 
 same-length : tie.Need-same-length
 same-length c = search needs
@@ -71,7 +74,7 @@ returns-2 c =
 are-ways-kept-requires : tie.Need-are-ways-kept-requires
 are-ways-kept-requires c κs =
     let e = c .before .before .before .before .before in
-    record { sized = first e .sized; closed = kept-closed (first e) (cells e); marks = marks e; notes = start e .pre .notes }
+    record { same = lengths-same _ _ (first e .lengths); sized = first e .sized; closed = kept-closed (first e) (cells e); marks = marks e; notes = start e .pre .notes }
 
 same-length-3 : tie.Need-same-length-3
 same-length-3 c = search needs

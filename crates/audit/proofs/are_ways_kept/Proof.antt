@@ -15,7 +15,7 @@ use Rattle.numbers.proofs.Cases.{same?}
 use Rattle.rules.specs.WhatTheIndexDoes.{document01}
 use Rattle.rules.specs.ASoundTable.{hasChild}
 use Rattle.audit.specs.Ways.{most, Depth, Used, NotedBelow, Climbed, WayKept, WaysUpTo}
-use Rattle.audit.proofs.Says.{says-yes, says-no, said-no, said-yes, as-said}
+use Rattle.audit.proofs.Says.{says-yes, says-no, said-no, said-yes, as-said, clash, tested-some, tested-none}
 use Rattle.audit.proofs.Marks.{marks-say}
 use Rattle.audit.proofs.are_ways_kept.Statement.{statement}
 use Rattle.audit.proofs.are_ways_kept.Tie as tie
@@ -69,11 +69,16 @@ loop-holds c = (omega arith, omega arith, (λ u far l used. absurd (omega arith)
 add-t : tie.Need-add-t Inv-loop μ-loop
 add-t c = omega arith
 
-plus-at-requires : tie.Need-plus-at-requires Inv-loop μ-loop
-plus-at-requires c κs = tt
+is-plus-in-requires : tie.Need-is-plus-in-requires Inv-loop μ-loop
+is-plus-in-requires c κs = let p = c .before .before .before .before .pre in omega (arith, p .sized .fits, p .same)
+
+-- A used cell.
+used-here : (c : tie.Then1 Inv-loop μ-loop) → let l = c .before .before .before in
+    1 ≤ plusAt (l .before .before .before .args .check .now) (l .loop .t + 1)
+used-here c = tested-some _ (c .before .is-plus-in .ensures) (c .if1 .taken)
 
 has-fruit-requires : tie.Need-has-fruit-requires Inv-loop μ-loop
-has-fruit-requires c κs = omega arith
+has-fruit-requires c κs = (omega (arith, c .before .before .before .before .before .before .pre .sized .fits), omega arith)
 
 same-length : tie.Need-same-length Inv-loop μ-loop
 same-length c = omega arith
@@ -82,7 +87,7 @@ returns : tie.Need-returns Inv-loop μ-loop
 returns c =
     let m = c .before .before .before .before .before .before .before .before .pre .marks in
     let f = said-no _ (c .before .has-fruit .ensures) (c .if2 .taken) in
-    says-no (λ w. f (λ h. as-said _ (marks-say m _ (omega arith)) ∙ w _ (omega arith) (omega arith) (omega arith) .fruit h))
+    says-no (λ w. f (λ h. as-said _ (marks-say m _ (omega arith)) ∙ w _ (omega arith) (omega arith) (used-here (c .before .before)) .fruit h))
 
 climb-requires : tie.Need-climb-requires Inv-loop μ-loop
 climb-requires c κs =
@@ -91,7 +96,7 @@ climb-requires c κs =
       closed = l .before .before .before .pre .closed;
       noted = record { long = omega (arith, l .loop .inv .3 .long); each = l .loop .inv .3 .each };
       far = omega arith;
-      used = omega arith;
+      used = used-here (c .before .before .before);
     }
 
 same-length-2 : tie.Need-same-length-2 Inv-loop μ-loop
@@ -100,7 +105,7 @@ same-length-2 c = omega arith
 returns-2 : tie.Need-returns-2 Inv-loop μ-loop
 returns-2 c =
     let f = c .before .climb .ensures .lost (c .if3 .taken) in
-    says-no (λ w. true≢false (sym (w _ (omega arith) (omega arith) (omega arith) .climbs) ∙ f))
+    says-no (λ w. true≢false (sym (w _ (omega arith) (omega arith) (used-here (c .before .before .before .before .before)) .climbs) ∙ f))
 
 cast-depths : tie.Need-cast-depths Inv-loop μ-loop
 cast-depths c = omega (arith, c .before .climb .ensures .small)
@@ -131,8 +136,8 @@ loop-again-2 c =
     let (low, high, ways, notes, long) = c .before .before .before .loop .inv in (
       omega arith,
       omega arith,
-      way-more ways (λ u. absurd (omega arith)),
-      note-none notes (λ u. ⊎-elim (λ e. omega arith) (λ h. omega arith) u),
+      way-more ways (λ u. absurd (clash (tested-none _ (c .before .is-plus-in .ensures) (c .if1 .left)) u)),
+      note-none notes (λ u. ⊎-elim (λ e. omega arith) (clash (tested-none _ (c .before .is-plus-in .ensures) (c .if1 .left))) u),
       long,
     )
 
@@ -150,7 +155,7 @@ are-ways-kept-spec =
     μ-loop
     loop-holds
     add-t
-    plus-at-requires
+    is-plus-in-requires
     has-fruit-requires
     same-length
     returns

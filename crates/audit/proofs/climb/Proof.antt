@@ -5,7 +5,7 @@ use Prim.Native.Nat.{_-_, _≤_}
 use native.Mathlib.Omega.{arith}
 use Rattle.rules.specs.WhatTheIndexDoes.{document01}
 use Rattle.audit.specs.Ways.{most}
-use Rattle.audit.proofs.Climbing.{Climbing, climb-start, climb-on, climbed-out, climbed-far, climbed-home}
+use Rattle.audit.proofs.Climbing.{Climbing, used-parent, climb-start, climb-on, climbed-out, climbed-far, climbed-home}
 use Rattle.audit.proofs.climb.Statement.{statement}
 use Rattle.audit.proofs.climb.Tie as tie
 
@@ -15,13 +15,13 @@ Inv-loop check depths from at₀ steps₀ at steps = Climbing check from steps a
 abbrev μ-loop : tie.MeasureT-loop
 μ-loop check depths from at₀ steps₀ at steps = most document01 - steps
 
-plus-at-requires : tie.Need-plus-at-requires Inv-loop μ-loop
-plus-at-requires c κs = tt
+known-plus-requires : tie.Need-known-plus-requires Inv-loop μ-loop
+known-plus-requires c κs = c .before .pre .used
 
 loop-holds : tie.Need-loop-holds Inv-loop μ-loop
 loop-holds c =
     let s = c .before .before .pre in
-    (climb-on (s .closed) (climb-start (omega arith) (inr (s .used))) (s .far) (c .plus-at .ensures .is), omega arith, omega arith)
+    (climb-on (s .closed) (climb-start (omega arith) (inr (s .used))) (s .far) (c .known-plus .ensures .is), omega arith, omega arith)
 
 add-if1 : tie.Need-add-if1 Inv-loop μ-loop
 add-if1 c = omega arith
@@ -29,8 +29,11 @@ add-if1 c = omega arith
 returns : tie.Need-returns Inv-loop μ-loop
 returns c = climbed-out (c .before .before .loop .inv .0) (omega arith) (λ e. omega arith)
 
-plus-at-requires-2 : tie.Need-plus-at-requires-2 Inv-loop μ-loop
-plus-at-requires-2 c κs = tt
+known-plus-requires-2 : tie.Need-known-plus-requires-2 Inv-loop μ-loop
+known-plus-requires-2 c κs =
+    let l = c .before .before in
+    let s = l .before .before .before in
+    used-parent (s .args .check .now) (l .loop .at) (l .loop .inv .0 .used) (omega (arith, s .pre .far))
 
 add-steps : tie.Need-add-steps Inv-loop μ-loop
 add-steps c = omega arith
@@ -42,7 +45,7 @@ loop-again : tie.Need-loop-again Inv-loop μ-loop
 loop-again c =
     let s = c .before .before .before .before .before .before .pre in
     let w = c .before .before .before .loop .inv .0 in
-    (climb-on (s .closed) w (omega arith) (c .plus-at2 .ensures .is), omega arith, omega arith)
+    (climb-on (s .closed) w (omega arith) (c .known-plus2 .ensures .is), omega arith, omega arith)
 
 shared-slice-read-depth : tie.Need-shared-slice-read-depth Inv-loop μ-loop
 shared-slice-read-depth c = omega arith
@@ -74,11 +77,11 @@ climb-spec =
     (tie.spec
     Inv-loop
     μ-loop
-    plus-at-requires
+    known-plus-requires
     loop-holds
     add-if1
     returns
-    plus-at-requires-2
+    known-plus-requires-2
     add-steps
     loop-less
     loop-again

@@ -5,6 +5,7 @@ use native.Mathlib.Omega.{arith}
 use borrow.Author.Needs.{needs}
 use Rattle.rules.specs.WhatTheIndexDoes.{rightLengths}
 use Rattle.rules.proofs.Choices.{was-yes}
+use Rattle.rules.proofs.Lengths.{lengths-same}
 use Rattle.audit.specs.Kept.{Sized, FirstKept}
 use Rattle.audit.proofs.Says.{says-as, said-no, said-yes, refuted}
 use Rattle.audit.proofs.SoundKept.{sound-first}
@@ -45,7 +46,7 @@ returns-3 : tie.Need-returns-3
 returns-3 c = refuted (λ e. omega (arith, sound-first _ _ _ e .sized .fits))
 
 is-past-nought-requires : tie.Need-is-past-nought-requires
-is-past-nought-requires c κs = sized c
+is-past-nought-requires c κs = (sized c, lengths-same _ _ (lengths (c .before .before .before)))
 
 returns-4 : tie.Need-returns-4
 returns-4 c = refuted (λ e. said-no _ (c .before .is-past-nought .ensures) (c .if4 .taken) (sound-first _ _ _ e .past))
