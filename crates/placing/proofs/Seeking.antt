@@ -13,13 +13,8 @@ use Rattle.numbers.proofs.Cases.{lt-or-ge}
 use Rattle.rules.specs.Placement.{leastOf, opens, suits, sought}
 use Rattle.rules.proofs.Ranges.{first-is}
 use Rattle.tree.proofs.Placement.{among-least, each-opens}
-use Rattle.placing.specs.Search.{takenAt, Next, Chain}
+use Rattle.placing.specs.Search.{takenAt, Next, Chain, Arrived}
 use Rattle.placing.proofs.TakenCells.{taken-past}
-
--- The search has arrived at u, which is on the chain or past the size. The bases whose least cell lies before u do not suit.
-pub record Arrived (m : ℕ → Bool) (check : List ℤ) (size : ℕ) (codes : List ℕ) (u : ℕ) : Type 0 where
-  pub on : u ≤ size → m u ≡ true
-  pub passed : (q : ℕ) → 1 ≤ q → q + leastOf codes < u → suits m (takenAt check size) size codes q ≡ false
 
 -- A base whose least cell lies between two neighbours on the chain does not suit.
 skipped : {m : ℕ → Bool} {size u v : ℕ} (used : ℕ → Bool) (codes : List ℕ) (q : ℕ) → Next m size u v →

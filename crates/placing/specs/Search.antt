@@ -3,13 +3,13 @@
 use mathlib.Core.Path.{_≡_}
 use mathlib.Core.Bool.{Bool, true, false, _&&_}
 use mathlib.Core.List.{List}
-use Prim.Native.Nat.{ℕ, suc, _≤_, _<_}
+use Prim.Native.Nat.{ℕ, suc, _+_, _≤_, _<_}
 use lib.ListN.{length}
 use lib.IntN.{ℤ}
 use lib.Dec.{leb}
 use Rattle.numbers.specs.Stored.{plusAt, minusAt}
 use Rattle.rules.specs.WhatTheIndexDoes.{GREATEST}
-use Rattle.rules.specs.Placement.{sought}
+use Rattle.rules.specs.Placement.{leastOf, greatestOf, suits, sought}
 use Rattle.tree.specs.Members.{Among}
 
 -- Whether the cell u is used, by check. Cells past the size count as unused.
@@ -63,3 +63,32 @@ pub record Before (m : ℕ → Bool) (check : List ℤ) (u p : ℕ) : Type 0 whe
 -- What a walk to the cell u finds: the last element below it on the chain, whichever that is.
 abbrev pub Precedes : List ℤ → ℕ → ℕ → Type 0
 Precedes check u p = (m : ℕ → Bool) (size : ℕ) → Chain m size check → u ≤ suc size → Before m check u p
+
+-- r is the last cell up to the size that check holds.
+pub record LastStored (check : List ℤ) (size r : ℕ) : Type 0 where
+  pub inside : r < length check
+  pub within : r ≤ size
+  pub all : (u : ℕ) → u ≤ size → u < length check → u ≤ r
+
+-- The search has arrived at u, which is on the chain or past the size. The bases whose least cell lies before u do not suit.
+pub record Arrived (m : ℕ → Bool) (check : List ℤ) (size : ℕ) (codes : List ℕ) (u : ℕ) : Type 0 where
+  pub on : u ≤ size → m u ≡ true
+  pub passed : (q : ℕ) → 1 ≤ q → q + leastOf codes < u → suits m (takenAt check size) size codes q ≡ false
+
+-- What passing over is asked: some chain stands in check, and u is on it or at its end.
+pub record Passes (check : List ℤ) (last span u : ℕ) : Type 0 where
+  pub cells : ℕ → Bool
+  pub size : ℕ
+  pub chain : Chain cells size check
+  pub stored : LastStored check size last
+  pub small : size < 65536
+  pub near : span ≤ GREATEST
+  pub within : u ≤ suc size
+  pub on : u ≤ size → cells u ≡ true
+
+-- What it gives: a search that has arrived at u has arrived at r, whichever cells the chain names and for all codes that lie so far
+-- apart.
+pub record Passed (check : List ℤ) (last span u r : ℕ) : Type 0 where
+  pub onward : u ≤ r
+  pub arrives : (m : ℕ → Bool) (size : ℕ) (codes : List ℕ) → Chain m size check → LastStored check size last → 0 < length codes →
+      leastOf codes + span ≡ greatestOf codes → Arrived m check size codes u → Arrived m check size codes r

@@ -1,8 +1,7 @@
--- `opens` says whether every q + code is unused. The loop's invariant: the rest opens exactly if all do. The measure is the length
--- of the rest. Assumes nothing.
-use mathlib.Core.Path.{_≡_, refl}
-use mathlib.Core.Logic.{⊎-elim, inl, inr}
-use mathlib.Core.Bool.{Bool, true, false}
+-- `opens` asks of all codes but the first, then of that one. Assumes nothing.
+use mathlib.Core.Path.{_≡_, refl, sym, ap, _∙_}
+use mathlib.Core.Logic.{inl, inr}
+use mathlib.Core.Bool.{Bool, true, false, not, and-true, and-false}
 use mathlib.Core.List.{List}
 use Prim.Native.Nat.{ℕ, _+_, _≤_, _<_}
 use native.Mathlib.Omega.{arith}
@@ -10,94 +9,66 @@ use borrow.Author.Needs.{needs}
 use lib.ListN.{length, getD}
 use Rattle.rules.specs.WhatTheIndexDoes.{GREATEST}
 use Rattle.rules.specs.Placement.{opens}
-use Rattle.rules.proofs.Texts.{behind, first-and-rest, none-left}
+use Rattle.rules.proofs.Texts.{behind, first-and-rest}
 use Rattle.tree.specs.Members.{Among}
-use Rattle.placing.specs.Search.{takenAt}
-use Rattle.placing.proofs.TakenCells.{taken-parent, taken-free, taken-past}
+use Rattle.placing.specs.Search.{Codes}
 use Rattle.placing.proofs.opens.Statement.{statement}
 use Rattle.placing.proofs.opens.Tie as tie
 
--- The codes left open q exactly if all do, and none of them is past the greatest.
-record Underway (used : ℕ → Bool) (q : ℕ) (left codes : List ℕ) : Type 0 where
-  same : opens used left q ≡ opens used codes q
-  small : (c : ℕ) → Among c left → c ≤ GREATEST
+module _ {codes : List ℕ} (w : Codes codes) where
+  first-small : getD codes 0 0 ≤ GREATEST
+  first-small = (rw (first-and-rest codes (w .some)) at (w .small)) _ (inl refl)
 
-module _ {used : ℕ → Bool} {q : ℕ} {left codes : List ℕ} (u : Underway used q left codes) where
-  ends : length left ≤ 0 → true ≡ opens used codes q
-  unfolding opens
-  ends h = rw (none-left left h) at (u .same)
+  rest-small : (c : ℕ) → Among c (behind codes) → c ≤ GREATEST
+  rest-small c m = (rw (first-and-rest codes (w .some)) at (w .small)) c (inr m)
 
-  module _ (h : 0 < length left) where
-    first-small : getD left 0 0 ≤ GREATEST
-    first-small = (rw (first-and-rest left h) at (u .small)) _ (inl refl)
-
-    stops : used (q + getD left 0 0) ≡ true → false ≡ opens used codes q
+  module _ (used : ℕ → Bool) (q : ℕ) where
+    first-decides : opens used (behind codes) q ≡ true → not (used (q + getD codes 0 0)) ≡ opens used codes q
     unfolding opens
-    stops t = rw (first-and-rest left h, t) at (u .same)
+    first-decides e = sym (ap (λ (cs : List ℕ). opens used cs q) (first-and-rest codes (w .some)) ∙ rw e (and-true (not (used (q + getD codes 0 0)))))
 
-    goes-on : used (q + getD left 0 0) ≡ false → Underway used q (behind left) codes
+    rest-decides : opens used (behind codes) q ≡ false → false ≡ opens used codes q
     unfolding opens
-    goes-on f = record {
-      same = rw (first-and-rest left h, f) at (u .same);
-      small = λ c m. (rw (first-and-rest left h) at (u .small)) c (inr m);
-    }
+    rest-decides e = sym (ap (λ (cs : List ℕ). opens used cs q) (first-and-rest codes (w .some)) ∙ rw e (and-false (not (used (q + getD codes 0 0)))))
 
-abbrev Inv-loop : tie.InvT-loop
-Inv-loop check size codes q rest₀ rest = Underway (takenAt check size) q rest codes
+sub-are-unused : tie.Need-sub-are-unused
+sub-are-unused c = search needs
 
-abbrev μ-loop : tie.MeasureT-loop
-μ-loop check size codes q rest₀ rest = length rest
+part-are-unused-start : tie.Need-part-are-unused-start
+part-are-unused-start c = search needs
 
-loop-holds : tie.Need-loop-holds Inv-loop μ-loop
-loop-holds c = record { same = refl; small = c .before .pre .1 .small }
+part-are-unused-end : tie.Need-part-are-unused-end
+part-are-unused-end c = search needs
 
-shared-slice-read-u : tie.Need-shared-slice-read-u Inv-loop μ-loop
-shared-slice-read-u c = omega arith
+are-unused-requires : tie.Need-are-unused-requires
+are-unused-requires c κs = let p = c .before .before .pre in (p .0, p .1, rest-small (p .2))
 
-add-u : tie.Need-add-u Inv-loop μ-loop
-add-u c = omega (arith, first-small (c .before .before .loop .inv) (omega arith))
+shared-slice-read-is-taken : tie.Need-shared-slice-read-is-taken
+shared-slice-read-is-taken c = search needs
 
-plus-at-requires : tie.Need-plus-at-requires Inv-loop μ-loop
-plus-at-requires c κs = search needs
+add-is-taken : tie.Need-add-is-taken
+add-is-taken c = omega (arith, first-small (c .before .before .before .before .before .pre .2))
 
-returns : tie.Need-returns Inv-loop μ-loop
-returns c = stops (c .before .before .before .before .before .loop .inv) (omega arith) (taken-parent _ _ _ (omega arith) (omega arith))
+is-taken-requires : tie.Need-is-taken-requires
+is-taken-requires c κs = search needs
 
-sub-rest : tie.Need-sub-rest Inv-loop μ-loop
-sub-rest c = omega arith
+returns : tie.Need-returns
+returns c = ap not (c .is-taken .ensures) ∙ first-decides (c .before .before .before .before .before .before .pre .2) _ _
+    (sym (c .before .before .before .are-unused .ensures) ∙ c .before .before .if1 .taken)
 
-part-rest-start : tie.Need-part-rest-start Inv-loop μ-loop
-part-rest-start c = omega arith
-
-part-rest-end : tie.Need-part-rest-end Inv-loop μ-loop
-part-rest-end c = omega arith
-
-loop-less : tie.Need-loop-less Inv-loop μ-loop
-loop-less c = omega arith
-
-loop-again : tie.Need-loop-again Inv-loop μ-loop
-loop-again c = goes-on (c .before .before .before .before .loop .inv) (omega arith) (⊎-elim
-    (λ w. taken-free _ _ _ (omega arith))
-    (λ w. taken-past _ _ _ (w .left))
-    (c .before .if1 .came))
-
-returns-2 : tie.Need-returns-2 Inv-loop μ-loop
-returns-2 c = ends (c .before .loop .inv) (c .loop-test .left)
+returns-2 : tie.Need-returns-2
+returns-2 c = rest-decides (c .before .before .before .before .pre .2) _ _ (sym (c .before .are-unused .ensures) ∙ c .if1 .left)
 
 pub opens-spec : {M : Type 1} → statement M
 opens-spec =
     tie.close
     (tie.spec
-    Inv-loop
-    μ-loop
-    loop-holds
-    shared-slice-read-u
-    add-u
-    plus-at-requires
+    sub-are-unused
+    part-are-unused-start
+    part-are-unused-end
+    are-unused-requires
+    shared-slice-read-is-taken
+    add-is-taken
+    is-taken-requires
     returns
-    sub-rest
-    part-rest-start
-    part-rest-end
-    loop-less
-    loop-again
     returns-2)
