@@ -19,17 +19,17 @@ use Rattle.rules.specs.Listing.{Entry, entry, listed, spelt, tried, visited, li
 use Rattle.tree.proofs.SevenRules.{rules-render}
 use Rattle.tree.proofs.Finding.{next-same, row-same}
 use Rattle.text.proofs.Hexadecimal.{lines-append, lines-one}
-use Rattle.listing.specs.Visiting.{linesBelow, linesTried}
+use Rattle.listing.specs.Visiting.{linesBelow, linesTried, linesUnder}
 
 -- ---- the entries
 
 module _ (P : Profile) (T : Cells) (s : ℕ) (key : List ℕ) where
   -- The first of the labels left, and the labels behind it.
-  tried-first : (visit : ℕ → List ℕ → List Entry) (n : ℕ) {c t : ℕ} → n ≢ 0 → c ≡ listed P n → t ≡ next T s c →
-      tried P visit T s key n ≡ cond (eqb t 0) [] (visit t (spelt P key c)) ++ tried P visit T s key (n - 1)
+  tried-first : (visit : ℕ → List ℕ → List Entry) (n : ℕ) → n ≢ 0 → let t = next T s (listed P n) in
+      tried P visit T s key n ≡ cond (eqb t 0) [] (visit t (spelt P key (listed P n))) ++ tried P visit T s key (n - 1)
   unfolding tried
-  tried-first visit zero some is leads = absurd (some refl)
-  tried-first visit (suc n) some is leads = rw (leads, is, sub-one)
+  tried-first visit zero some = absurd (some refl)
+  tried-first visit (suc n) some = rw sub-one
 
   visited-leaf : (depth : ℕ) {r : ℕ} → r ≡ T s .row → r ≢ 0 → visited P depth T s key ≡ entry key r ∷ []
   unfolding visited
@@ -56,17 +56,28 @@ module _ (base check : List ℤ) (whole : sound document01 base check ≡ true) 
   unfolding tried linesOf
   tried-none z = rw z
 
-  -- The label c is the first of those left, and leads to t, or nowhere.
-  module _ {left c t : ℕ} (some : left ≢ 0) (is : c ≡ listed document01 left) (leads : t ≡ nextAt base check s c) (low : 1 ≤ c) where
-    leads-next : t ≡ next T s c
-    leads-next = leads ∙ next-same (rules-render document01 base check whole) s c low
+  -- The lines of the labels left are those under the next label, and those of the labels behind it.
+  pub tried-next : {left : ℕ} → left ≢ 0 →
+      linesTried base check s left depth key ≡ linesUnder base check s (listed document01 left) depth key ++ linesTried base check s (left - 1) depth key
+  tried-next {left} some = ap linesOf (tried-first document01 T s key _ left some) ∙ lines-append _ _
 
-    pub tried-skip : t ≡ 0 → linesTried base check s left depth key ≡ linesTried base check s (left - 1) depth key
-    tried-skip z = ap linesOf (tried-first document01 T s key _ left some is leads-next ∙ rw (eq-eqb t 0 z))
+  -- The label c leads to t, or nowhere.
+  module _ {c t : ℕ} (leads : t ≡ nextAt base check s c) (low : 1 ≤ c) where
+    under-next : t ≡ next T s c
+    under-next = leads ∙ next-same (rules-render document01 base check whole) s c low
 
-    pub tried-found : t ≢ 0 → linesTried base check s left depth key ≡
-        linesBelow base check t depth (spelt document01 key c) ++ linesTried base check s (left - 1) depth key
-    tried-found d = ap linesOf (tried-first document01 T s key _ left some is leads-next ∙ rw (ne-eqb t 0 d)) ∙ lines-append _ _
+    pub under-none : t ≡ 0 → linesUnder base check s c depth key ≡ []
+    unfolding linesOf
+    under-none z = rw (← under-next, eq-eqb t 0 z)
+
+    pub under-found : t ≢ 0 → linesUnder base check s c depth key ≡ linesBelow base check t depth (spelt document01 key c)
+    under-found d = rw (← under-next, ne-eqb t 0 d)
+
+  -- The next label leads nowhere.
+  pub tried-skip : {left : ℕ} → left ≢ 0 → 1 ≤ listed document01 left → nextAt base check s (listed document01 left) ≡ 0 →
+      linesTried base check s left depth key ≡ linesTried base check s (left - 1) depth key
+  tried-skip {left} some low z =
+      tried-next some ∙ ap (λ (l : List ℕ). l ++ linesTried base check s (left - 1) depth key) (under-none refl low z)
 
   -- The row that the cell holds is r, or it holds none.
   module _ {r : ℕ} (is : r ≡ rowOf base s) where

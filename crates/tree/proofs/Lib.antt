@@ -40,6 +40,9 @@ pub mod SevenRules
 pub mod TheChain
 -- The listing.
 pub mod Listing
+pub mod Sums
+pub mod OnTheWay
+pub mod LeafByLeaf
 pub mod ListingLength
 -- Demand 2.
 pub mod EmptyTable

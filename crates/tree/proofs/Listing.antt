@@ -3,7 +3,7 @@ use mathlib.Core.Path.{_≡_, refl, sym, ap, _∙_, subst}
 use mathlib.Core.Logic.{_≢_, _⊎_, inl, inr, ⊎-elim}
 use mathlib.Core.Bool.{true, cond}
 use mathlib.Core.List.{List, [], _∷_, _++_, map, append-nil, append-assoc, head-eq-of-cons-eq, tail-eq-of-cons-eq}
-use Prim.Native.Nat.{ℕ, zero, suc, _≤_, _<_}
+use Prim.Native.Nat.{ℕ, zero, suc, _-_, _≤_, _<_}
 use native.Mathlib.Omega.{arith}
 use lib.ListN.{length}
 use lib.Dec.{ltb, eqb}
@@ -19,6 +19,20 @@ use Rattle.tree.specs.Members.{Among, Once}
 use Rattle.tree.proofs.Steps.{next-step}
 use Rattle.tree.proofs.Trees.{row-low, row-pos, based-row, step-low, step-high, step-held, walk-pos}
 use Rattle.tree.proofs.Identifiers.{spelt-codes, identifier-short, live-identifier}
+
+-- ---- the label tried when n are left
+
+module _ (P : Profile) where
+  -- It is a label.
+  pub listed-within : {n c : ℕ} → n ≢ 0 → n ≤ P .greatest → c ≡ listed P n → (1 ≤ c) × (c ≤ P .greatest)
+  unfolding listed
+  listed-within some h is = (omega arith, omega arith)
+
+  -- Each label is tried at exactly one n.
+  pub listed-once : (c : ℕ) → 1 ≤ c → c ≤ P .greatest →
+      (n : ℕ) × (1 ≤ n) × (n ≤ P .greatest) × (listed P n ≡ c) × ((m : ℕ) → 1 ≤ m → m ≤ P .greatest → listed P m ≡ c → m ≡ n)
+  unfolding listed
+  listed-once c l h = (suc (P .greatest) - c, omega arith, omega arith, omega arith, λ m a b e. omega arith)
 
 -- ---- lists of entries
 

@@ -16,5 +16,6 @@ pub mod Sheets
 pub mod WrittenLines
 -- The plain list of demand 2.
 pub mod ThePlainList
--- Lists.
+-- Lists, and sums.
 pub mod Members
+pub mod Sums
