@@ -16,9 +16,9 @@ use Rattle.rules.specs.ASoundTable.{sound}
 use Rattle.rules.specs.Rendering.{readCells}
 use Rattle.rules.specs.Finding.{nextAt, rowOf}
 use Rattle.rules.specs.Listing.{Entry, entry, listed, spelt, tried, visited, lineOf, linesOf}
+use Rattle.rules.proofs.Digits.{lines-append, lines-one}
 use Rattle.tree.proofs.SevenRules.{rules-render}
 use Rattle.tree.proofs.Finding.{next-same, row-same}
-use Rattle.text.proofs.Hexadecimal.{lines-append, lines-one}
 use Rattle.listing.specs.Visiting.{linesBelow, linesTried, linesUnder}
 
 -- ---- the entries

@@ -1,13 +1,13 @@
 -- Hexadecimal text: how long it is, and what its parts are. Assumes nothing.
 use mathlib.Core.Path.{_≡_, refl, sym, ap, _∙_}
 use mathlib.Core.Bool.{Bool, true, false, _&&_}
-use mathlib.Core.List.{List, [], _∷_, _++_}
+use mathlib.Core.List.{List, [], _∷_, _++_, append-assoc, append-nil}
 use Prim.Native.Nat.{ℕ, zero, suc, _+_, _*_, _/_}
 use native.Mathlib.Omega.{arith}
 use lib.ListN.{length, take, drop, length-append, take-append-drop}
 use lib.Dec.{ltb}
 use Rattle.rules.specs.declared.Answer.{Answer}
-use Rattle.rules.specs.Listing.{Entry, hex, hexes, lineOf}
+use Rattle.rules.specs.Listing.{Entry, hex, hexes, lineOf, linesOf}
 use Rattle.rules.specs.ARun.{nibble, digits, answerBytes}
 use Rattle.rules.proofs.Choices.{both}
 
@@ -30,6 +30,17 @@ length-answer a = simp (length-append, length-hex)
 pub length-line : (e : Entry) → length (lineOf e) ≡ 11 + 2 * length (e .key)
 unfolding lineOf
 length-line e = simp (length-append, length-hex, length-hexes) (omega arith)
+
+-- ---- lines
+
+pub lines-append : (es fs : List Entry) → linesOf (es ++ fs) ≡ linesOf es ++ linesOf fs
+unfolding linesOf
+lines-append [] fs = refl
+lines-append (e ∷ es) fs = rw (lines-append es fs, append-assoc)
+
+pub lines-one : (e : Entry) → linesOf (e ∷ []) ≡ lineOf e
+unfolding linesOf
+lines-one e = append-nil (lineOf e)
 
 -- ---- digits
 

@@ -2,7 +2,7 @@
 -- Assumes nothing.
 use mathlib.Core.Path.{_≡_, refl}
 use mathlib.Core.Bool.{Bool}
-use mathlib.Core.List.{List, [], _∷_, _++_, append-assoc, append-nil}
+use mathlib.Core.List.{List, [], _∷_, _++_}
 use Prim.Native.Nat.{ℕ, zero, suc, _+_, _*_, _-_, _/_, _%_, _<_}
 use native.Mathlib.Numerals.{add-one, sub-one}
 use native.Mathlib.Omega.{arith}
@@ -14,7 +14,7 @@ use Rattle.rules.specs.Ranges.{eachTo}
 use Rattle.rules.specs.declared.Answer.{Answer}
 use Rattle.rules.specs.Answers.{number, value}
 use Rattle.rules.specs.ARun.{answerBytes}
-use Rattle.rules.specs.Listing.{Entry, digit, hex, hexes, LF, lineOf, linesOf}
+use Rattle.rules.specs.Listing.{Entry, digit, hex, hexes, LF, lineOf}
 use Rattle.rules.proofs.Ranges.{each-to}
 use Rattle.rules.proofs.Digits.{length-hex, length-hexes}
 use Rattle.text.proofs.Sets.{sets-append, sets-then, sets-set-past}
@@ -65,12 +65,3 @@ line-parts l at e = simp (sets-append, length-hex, length-hexes)
 pub answer-parts : (l : List ℕ) (a : Answer) → set (sets (sets l 0 (hex 2 (number a))) 2 (hex 8 (value a))) 10 LF ≡ sets l 0 (answerBytes a)
 unfolding answerBytes
 answer-parts l a = simp (sets-append, length-hex)
-
-pub lines-append : (es fs : List Entry) → linesOf (es ++ fs) ≡ linesOf es ++ linesOf fs
-unfolding linesOf
-lines-append [] fs = refl
-lines-append (e ∷ es) fs = rw (lines-append es fs, append-assoc)
-
-pub lines-one : (e : Entry) → linesOf (e ∷ []) ≡ lineOf e
-unfolding linesOf
-lines-one e = append-nil (lineOf e)

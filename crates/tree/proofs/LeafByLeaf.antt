@@ -3,7 +3,7 @@
 use mathlib.Core.Path.{_≡_, refl, sym, ap, ap₂, _∙_}
 use mathlib.Core.Logic.{_≢_, _⊎_, inl, inr, ⊎-elim}
 use mathlib.Core.Bool.{Bool, true, false, cond}
-use mathlib.Core.List.{List, [], _∷_, _++_}
+use mathlib.Core.List.{List, [], _∷_}
 use Prim.Native.Nat.{ℕ, zero, suc, _+_, _*_, _≤_}
 use native.Mathlib.Omega.{arith}
 use lib.ListN.{length, length-append}
@@ -14,20 +14,13 @@ use Rattle.rules.specs.WhatTheIndexDoes.{END, Profile}
 use Rattle.rules.specs.Table.{Cells, Table, next, node}
 use Rattle.rules.specs.Listing.{Entry, entry, listed, spelt, tried, visited, entries, linesOf, listing}
 use Rattle.rules.proofs.Choices.{branch, fails}
-use Rattle.rules.proofs.Digits.{length-line}
+use Rattle.rules.proofs.Digits.{length-line, lines-append, lines-one}
 use Rattle.tree.specs.Soundness.{Held, aLeaf, anInner, Sound}
 use Rattle.tree.specs.Sums.{sumTo}
 use Rattle.tree.proofs.Steps.{next-step, next-baseless}
 use Rattle.tree.proofs.Trees.{row-low, row-used, row-pos, step-held, held-leaf}
 use Rattle.tree.proofs.Sums.{sum-same, sum-none, sum-one, sum-swap, sum-unless}
 use Rattle.tree.proofs.OnTheWay.{above, above-self, root-above, above-shorter, above-split, via}
-
--- ---- the lines of entries
-
-both-length : (es fs : List Entry) → length (linesOf (es ++ fs)) ≡ length (linesOf es) + length (linesOf fs)
-unfolding linesOf
-both-length [] fs = omega arith
-both-length (e ∷ es) fs = simp length-append (omega (arith, both-length es fs))
 
 -- The lines under the labels tried, label by label.
 tried-length : (P : Profile) (visit : ℕ → List ℕ → List Entry) (T : Cells) (s : ℕ) (key : List ℕ) (n : ℕ) →
@@ -40,7 +33,8 @@ tried-length P visit T s key (suc n) =
     let below = visit (next T s c) (spelt P key c) in
     let first = cond (eqb (next T s c) 0) [] below in
     let rest = tried P visit T s key n in
-    both-length first rest ∙ ap₂ (λ (x y : ℕ). x + y) (chosen (eqb (next T s c) 0) below) (tried-length P visit T s key n)
+    ap length (lines-append first rest) ∙ length-append (linesOf first) (linesOf rest)
+    ∙ ap₂ (λ (x y : ℕ). x + y) (chosen (eqb (next T s c) 0) below) (tried-length P visit T s key n)
   where
     chosen : (b : Bool) (es : List Entry) → length (linesOf (cond b [] es)) ≡ cond b 0 (length (linesOf es))
     chosen true es = refl
@@ -124,8 +118,8 @@ module _ {P : Profile} {table : Table} (w : Sound P table) where
     }
 
     line-length : {s : ℕ} {q key : List ℕ} → Fits s q key → 1 ≤ T s .row → length (linesOf (entry key (T s .row) ∷ [])) ≡ 9 + 2 * length q
-    unfolding linesOf
-    line-length {s} {q} {key} b h = simp (length-append, length-line) (omega (arith, b .to-leaf h))
+    line-length {s} {q} {key} b h =
+        ap length (lines-one (entry key (T s .row))) ∙ length-line (entry key (T s .row)) ∙ omega (arith, b .to-leaf h)
 
     -- The lines of a visit are those of the leaves below.
     abbrev Sums : ℕ → Type 0

@@ -36,7 +36,7 @@ module _ (P : Profile) where
 
 -- ---- lists of entries
 
-pub before-other : (cs ds : List ℕ) → Before cs ds → cs ≢ ds
+before-other : (cs ds : List ℕ) → Before cs ds → cs ≢ ds
 before-other cs [] b e = b
 before-other [] (d ∷ ds) b e = b
 before-other (c ∷ cs) (d ∷ ds) (inl l) e = omega (arith, head-eq-of-cons-eq e)

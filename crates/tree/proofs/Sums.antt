@@ -2,7 +2,8 @@
 use mathlib.Core.Path.{_≡_, refl, sym, ap, ap₂, _∙_}
 use mathlib.Core.Logic.{_≢_, ⊎-elim}
 use mathlib.Core.Bool.{Bool, true, false, cond}
-use Prim.Native.Nat.{ℕ, zero, suc, _+_, _-_, _≤_}
+use Prim.Native.Nat.{ℕ, zero, suc, _+_, _*_, _-_, _≤_}
+use native.Mathlib.Nat.{mul-suc}
 use native.Mathlib.Numerals.{sub-one}
 use native.Mathlib.Omega.{arith}
 use Rattle.numbers.proofs.Cases.{same?}
@@ -36,6 +37,11 @@ sum-one (suc n) a f l u h = ⊎-elim
     (λ d. let z = h (suc n) (omega arith) (omega arith) (λ v. d (sym v)) in
     omega (arith, z, sum-one n a f l (omega arith) (λ i j k. h i j (omega arith))))
     (same? a (suc n))
+
+pub sum-most : (n m : ℕ) (f : ℕ → ℕ) → ((i : ℕ) → 1 ≤ i → i ≤ n → f i ≤ m) → sumTo n f ≤ m * n
+unfolding sumTo
+sum-most zero m f h = omega arith
+sum-most (suc n) m f h = simp mul-suc (omega (arith, h (suc n) (omega arith) (omega arith), sum-most n m f (λ i l u. h i l (omega arith))))
 
 sum-add : (n : ℕ) (f g : ℕ → ℕ) → sumTo n (λ i. f i + g i) ≡ sumTo n f + sumTo n g
 unfolding sumTo

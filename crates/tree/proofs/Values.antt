@@ -15,7 +15,7 @@ use Rattle.numbers.proofs.Cases.{some?}
 use Rattle.rules.specs.declared.Answer.{Answer}
 use Rattle.rules.specs.declared.Answer.the-variants.{NoSpace}
 use Rattle.rules.specs.Answers.{number, value, isDone, foundOrAbsent}
-use Rattle.rules.specs.WhatTheIndexDoes.{Profile, RoundTrip, isIdentifier, isRow, labels, rightLengths, lastCell}
+use Rattle.rules.specs.WhatTheIndexDoes.{Profile, isIdentifier, isRow, labels, rightLengths, lastCell}
 use Rattle.rules.specs.Finding.{rowOf, leafAt, rowFound}
 use Rattle.rules.specs.Table.{Cells, Table, used, next, walk, lookup, childCodes}
 use Rattle.rules.specs.Insertion.{Course, collide, extend, insertFrom, inserted}
@@ -118,26 +118,26 @@ module _ {K : Kind} {P : Profile} (audited : Audited K P) (base check : List ℤ
   abbrev room : ℕ
   room = (11 + 2 * P .limit) * lastCell base
 
-  bytes-most : RoundTrip P → K .audit P base check ≡ true → length (listing P (readCells base check)) ≤ room
+  bytes-most : K .audit P base check ≡ true → length (listing P (readCells base check)) ≤ room
   unfolding readTable
-  bytes-most r e = let h = audited .renders base check e in le-trans (listing-most r (h .table)) (mul-le-mul-left (11 + 2 * P .limit) (h .fits))
+  bytes-most e = let h = audited .renders base check e in le-trans (listing-most (h .table)) (mul-le-mul-left (11 + 2 * P .limit) (h .fits))
 
   -- No listing is longer, and where there is that room its answer is another than NO SPACE.
-  list-either : RoundTrip P → (out : List ℕ) → let a = listCall K P base check out .answer in (value a ≤ room) × (room ≤ length out → a ≢ NoSpace)
+  list-either : (out : List ℕ) → let a = listCall K P base check out .answer in (value a ≤ room) × (room ≤ length out → a ≢ NoSpace)
   unfolding listCall soundList
-  list-either r out =
+  list-either out =
       let F : Written → Type 0 = λ x. (value (x .answer) ≤ room) × (room ≤ length out → x .answer ≢ NoSpace) in
       let n = length (listing P (readCells base check)) in
       branch F (rightLengths base check) (λ _. branch F (K .audit P base check)
-      (λ e. let h = bytes-most r e in branch F (leb n (length out)) (λ _. (h, λ _ z. omega (arith, ap number z)))
+      (λ e. let h = bytes-most e in branch F (leb n (length out)) (λ _. (h, λ _ z. omega (arith, ap number z)))
       (λ f. (omega arith, λ k. absurd (omega (arith, leb-false n (length out) f)))))
       (λ _. (omega arith, λ _ z. omega (arith, ap number z)))) (λ _. (omega arith, λ _ z. omega (arith, ap number z)))
 
-  pub list-most : RoundTrip P → (out : List ℕ) → value (listCall K P base check out .answer) ≤ (11 + 2 * P .limit) * lastCell base
-  list-most r out = list-either r out .0
+  pub list-most : (out : List ℕ) → value (listCall K P base check out .answer) ≤ (11 + 2 * P .limit) * lastCell base
+  list-most out = list-either out .0
 
-  pub list-enough : RoundTrip P → (out : List ℕ) → (11 + 2 * P .limit) * lastCell base ≤ length out → listCall K P base check out .answer ≢ NoSpace
-  list-enough r out = list-either r out .1
+  pub list-enough : (out : List ℕ) → (11 + 2 * P .limit) * lastCell base ≤ length out → listCall K P base check out .answer ≢ NoSpace
+  list-enough out = list-either out .1
 
   pub run-most : (sheet out : List ℕ) → 11 * value (runCall K P base check sheet out .answer) ≤ length out
   unfolding runCall soundRun

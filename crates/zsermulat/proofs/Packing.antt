@@ -17,7 +17,6 @@ use Rattle.rules.specs.Promised.{Edits, Writes, Runs}
 use Rattle.rules.specs.Calls.{Edited, Written, Ran, freshCall, findCall, editCall, auditCall, listCall, runCall}
 use Rattle.rules.proofs.Choices.{branch}
 use Rattle.rules.proofs.Lengths.{lengths-within}
-use Rattle.rules.proofs.Codes.{document01-round-trip}
 use Rattle.tree.proofs.SingleCalls.{chained-audited}
 use Rattle.tree.proofs.Values.{find-most, edit-most, list-most, run-most}
 use Rattle.zsermulat.specs.Packed.{PLACE, packed, numberIn, valueIn, Packs, EditsPacked, WritesPacked, RunsPacked}
@@ -88,7 +87,7 @@ module _ (base check : List ℤ) where
   list-small out = go (rightLengths base check) refl
     where
       go : (b : Bool) → rightLengths base check ≡ b → value (listCall chained document01 base check out .answer) < PLACE
-      go true e = omega (arith, lengths-within base check e .1, list-most (chained-audited document01) base check document01-round-trip out)
+      go true e = omega (arith, lengths-within base check e .1, list-most (chained-audited document01) base check out)
       go false e = rw e (omega arith)
 
   pub run-small : (sheet out : List ℕ) → length out < 9223372036854775808 → value (runCall chained document01 base check sheet out .answer) < PLACE
