@@ -16,8 +16,7 @@
  *   - What is lent to be written overlaps nothing else that is lent to the same call.
  *   - While a call writes a table, no other thread reads or writes that table. Calls that only read
  *     it (zs_find, zs_audit, zs_list) may run side by side. The library keeps nothing of its own.
- *   - Of the stack zs_fresh and zs_find need less than 1 KB, zs_list at most 424 KB (so much where
- *     long identifiers have characters late in the alphabet), the others at most 132 KB. This is
+ *   - Of the stack zs_fresh and zs_find need less than 1 KB, the others at most 132 KB. This is
  *     measured, not proved. They take no other memory, and of the C library they need memset alone.
  *
  * The archive for x86-64 is what the prover's kit compiles. The one for aarch64 is the same proved

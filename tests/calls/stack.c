@@ -1,7 +1,7 @@
 /* Makes each call on the deepest tables that there can be, in a thread with a small stack, and
  * prints how much of it the calls have used. A call that needs more ends the program: behind the
  * stack lies a page that cannot be touched.
- * usage: stack KILOBYTES KILOBYTES-FOR-LIST
+ * usage: stack KILOBYTES
  */
 #include "zsermulat.h"
 #include <pthread.h>
@@ -92,7 +92,7 @@ static size_t used_by(void *(*work)(void *), size_t size) {
     return size - untouched;
 }
 
-static size_t stack, stack_for_list;
+static size_t stack;
 static size_t most[8];
 static const char *const names[] = {"fresh",   "find",  "insert", "delete",
                                     "compact", "audit", "list",   "run"};
@@ -101,8 +101,7 @@ enum { FRESH, FIND, INSERT, DELETE, COMPACT, AUDIT, LIST, RUN, CALLS };
 
 /* Makes a call, which has to give this answer. */
 static void make(int call, int number) {
-    size_t size = call == LIST ? stack_for_list : stack;
-    size_t used = used_by(calls[call], size) - used_by(nothing, size);
+    size_t used = used_by(calls[call], stack) - used_by(nothing, stack);
     if (zs_number(answer) != number) {
         fprintf(stderr, "stack: %s answers %d, not %d\n", names[call], zs_number(answer), number);
         exit(1);
@@ -186,16 +185,13 @@ static void fill(void) {
 
 int main(int count, char **words) {
     int call;
-    if (count != 3)
-        die("usage: stack KILOBYTES KILOBYTES-FOR-LIST");
+    if (count != 2)
+        die("usage: stack KILOBYTES");
     stack = strtoul(words[1], NULL, 10) * 1024;
-    stack_for_list = strtoul(words[2], NULL, 10) * 1024;
     try_all('-');
     try_all('a');
     fill();
     for (call = 0; call < CALLS; call++)
-        printf("%s: at most %lu bytes of stack, in a thread of %lu KB\n", names[call],
-               (unsigned long)most[call],
-               (unsigned long)(call == LIST ? stack_for_list : stack) / 1024);
+        printf("%s: at most %lu bytes of stack\n", names[call], (unsigned long)most[call]);
     return 0;
 }
