@@ -54,7 +54,7 @@ fn prior(check: &[i32], u: Cell) -> Cell
     let mut n = numbers::minus_at(check, 0);
     while n < u.0 {
         p = n;
-        n = numbers::minus_at(check, p);
+        n = numbers::known_minus(check, p);
     }
     Cell(p)
 }

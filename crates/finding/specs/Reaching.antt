@@ -2,7 +2,7 @@
 use mathlib.Core.Path.{_≡_}
 use mathlib.Core.Bool.{true, cond}
 use mathlib.Core.List.{List, map}
-use Prim.Native.Nat.{ℕ, _≤_}
+use Prim.Native.Nat.{ℕ, _≤_, _<_}
 use lib.ListN.{length, drop}
 use lib.IntN.{ℤ}
 use lib.Dec.{leb}
@@ -17,6 +17,10 @@ pub record Reaches (w : Reached) (cell met : ℕ) : Type 0 where
   pub cell-is : cell ≡ w .cell
   pub met-is : met ≡ w .met
 
+-- s is a cell of the arrays.
+abbrev pub IsCell : List ℤ → ℕ → Type 0
+IsCell base s = (1 ≤ s) × (s < length base)
+
 module _ (base check : List ℤ) where
   -- The cell to which a character leads from s, or 0: one without a code leads nowhere.
   unfoldable pub stepAt : ℕ → ℕ → ℕ
@@ -25,6 +29,7 @@ module _ (base check : List ℤ) where
   -- A walk along a text: the characters met have codes, so that what is left decides whether all have; where all have, it is the
   -- walk of 'Finding'.
   pub record Walked (key : List ℕ) (cell met : ℕ) : Type 0 where
+    pub inside : IsCell base cell
     pub most : met ≤ length key
     pub left : coded document01 (drop met key) ≡ coded document01 key
     pub reaches : coded document01 key ≡ true → Reaches (walkAt base check 1 (map codeOf key)) cell met

@@ -9,8 +9,9 @@ ghost use mathlib.Core.Path.{_≡_};
 ghost use lib.Dec.{leb};
 ghost use lib.ListN.{length, getD};
 ghost use Rattle.rules.specs.WhatTheIndexDoes.{GREATEST};
+ghost use Rattle.rules.specs.Answers.{foundOrAbsent};
 ghost use Rattle.rules.specs.Finding.{nextAt, leafAfter, rowOf};
-ghost use Rattle.finding.specs.Reaching.{stepAt, Walked, LooksUp, rowOrKey};
+ghost use Rattle.finding.specs.Reaching.{IsCell, stepAt, Walked, LooksUp, rowOrKey};
 
 // Where a walk stopped, and how many characters were found.
 pub struct Reached {
@@ -39,7 +40,13 @@ pub fn row(base: &[i32], check: &[i32], key: &[u8]) -> Answer
     if !rules::is_coded(&key[met..]) {
         return Answer::Key;
     }
-    let row = looked.row;
+    found_or_absent(looked.row)
+}
+
+// The answer to a lookup that found this row; row 0 is none.
+pub fn found_or_absent(row: Row) -> Answer
+    ensures { λ r. ⌜ r ≡ foundOrAbsent (row .0) ⌝ }
+{
     if row.0 == 0 {
         Answer::Absent
     } else {
@@ -81,13 +88,14 @@ fn walk(base: &[i32], check: &[i32], key: &[u8]) -> Reached
 
 // The row after the end mark, where a walk along so many characters found them all; otherwise row 0, which is none.
 fn held(base: &[i32], check: &[i32], characters: usize, reached: Reached) -> Row
+    requires { ⌜ IsCell (now base) (reached .cell .0) ⌝ }
     requires { ⌜ length (now base) ≤ 65536 ⌝ }
     ensures { λ r. ⌜ r .0 ≡ rowOf (now (base .entry)) (leafAfter (now (base .entry)) (now (check .entry)) characters (record { cell = reached .cell .0; met = reached .met })) ⌝ }
 {
     if reached.met != characters {
         return Row(0);
     }
-    let leaf = next(base, check, reached.cell, Alphabet::END);
+    let leaf = next_within(base, check, reached.cell, Alphabet::END);
     row_of(base, leaf)
 }
 
@@ -95,7 +103,7 @@ fn held(base: &[i32], check: &[i32], characters: usize, reached: Reached) -> Row
 // nowhere.
 fn step(base: &[i32], check: &[i32], rest: &[u8], reached: Cell) -> Cell
     requires { ⌜ 0 < length (now rest) ⌝ }
-    requires { ⌜ (1 ≤ reached .0) × (reached .0 < length (now base)) ⌝ }
+    requires { ⌜ IsCell (now base) (reached .0) ⌝ }
     requires { ⌜ length (now base) ≤ 65536 ⌝ }
     ensures { λ r. ⌜ r .0 ≡ stepAt (now (base .entry)) (now (check .entry)) (reached .0) (getD (now (rest .entry)) 0 0) ⌝ }
 {
@@ -124,7 +132,7 @@ pub fn next(base: &[i32], check: &[i32], s: Cell, code: usize) -> Cell
 // The same from a cell that is known to be one of the arrays': the walk comes to no other.
 fn next_within(base: &[i32], check: &[i32], s: Cell, code: usize) -> Cell
     requires { ⌜ code ≤ GREATEST ⌝ }
-    requires { ⌜ (1 ≤ s .0) × (s .0 < length (now base)) ⌝ }
+    requires { ⌜ IsCell (now base) (s .0) ⌝ }
     requires { ⌜ length (now base) ≤ 65536 ⌝ }
     ensures { λ r. ⌜ r .0 ≡ nextAt (now (base .entry)) (now (check .entry)) (s .0) code ⌝ }
 {

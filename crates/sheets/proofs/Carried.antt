@@ -9,8 +9,10 @@ use lib.IntN.{ℤ}
 use borrow.Author.Tests.{ne-eqb}
 use Rattle.rules.specs.declared.Answer.{Answer}
 use Rattle.rules.specs.declared.Answer.the-variants.{Line}
-use Rattle.rules.specs.WhatTheIndexDoes.{document01}
+use Rattle.rules.specs.Answers.{foundOrAbsent}
+use Rattle.rules.specs.WhatTheIndexDoes.{document01, isIdentifier}
 use Rattle.rules.specs.ASoundTable.{sound}
+use Rattle.rules.specs.Finding.{rowFound}
 use Rattle.rules.specs.Rendering.{readTable}
 use Rattle.rules.specs.Commands.{Command, find}
 use Rattle.rules.specs.ARun.{commandOf, answeredLine}
@@ -19,16 +21,15 @@ use Rattle.rules.specs.Promised.{Edits}
 use Rattle.tree.proofs.SevenRules.{rules-render}
 use Rattle.tree.proofs.SingleCalls.{chained-audited, single-stored}
 use Rattle.tree.proofs.Outcomes.{stored-refused}
-use Rattle.finding.specs.Reaching.{rowOrKey}
 use Rattle.sheets.specs.Answering.{lineEdit}
 
 module _ (base check : List ℤ) where
-  -- find answers as the lookup does, and the arrays stay.
-  pub looked-up : sound document01 base check ≡ true → (key : List ℕ) → {r : Answer} → r ≡ rowOrKey base check key →
-      Edits (lineEdit base check (some (find key))) r base check
-  unfolding answeredLine commandCall findCall rowOrKey
-  looked-up e key a =
-      rw (← single-stored (chained-audited document01) base check e (find key), rules-render document01 base check e .lengths)
+  -- find answers as the walk does, and the arrays stay.
+  pub looked-up : sound document01 base check ≡ true → (key : List ℕ) → isIdentifier document01 key ≡ true → {r : Answer} →
+      r ≡ foundOrAbsent (rowFound base check document01 key) → Edits (lineEdit base check (some (find key))) r base check
+  unfolding answeredLine commandCall findCall
+  looked-up e key k a =
+      rw (← single-stored (chained-audited document01) base check e (find key), rules-render document01 base check e .lengths, k)
       (record { answer = a; base-is = refl; check-is = refl })
 
   -- What is no command is refused as LINE.

@@ -110,12 +110,15 @@ fn delete(base: &mut [i32], check: &mut [i32], key: &[u8]) -> Answer
     deletion::delete(base, check, key)
 }
 
-// A line's lookup.
+// A line's lookup: KEY, then the walk.
 fn find(base: &[i32], check: &[i32], key: &[u8]) -> Answer
     requires { ⌜ sound document01 (now base) (now check) ≡ true ⌝ }
     ensures { λ r. ⌜ Edits (lineEdit (now (base .entry)) (now (check .entry)) (some (find (now (key .entry))))) r (now (base .entry)) (now (check .entry)) ⌝ }
 {
-    finding::row(base, check, key)
+    if !rules::is_identifier(key) {
+        return Answer::Key;
+    }
+    finding::found_or_absent(finding::look_up(base, check, key).row)
 }
 
 // A line's compaction: NUMBER, then the compaction itself.

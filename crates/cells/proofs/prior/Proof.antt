@@ -37,19 +37,22 @@ minus-at-requires c κs = tt
 loop-holds : tie.Need-loop-holds Inv-loop μ-loop
 loop-holds c = record { below = c .before .pre .some; on = λ m size chain h. chain .header; names = c .minus-at .ensures .is }
 
-minus-at-requires-2 : tie.Need-minus-at-requires-2 Inv-loop μ-loop
-minus-at-requires-2 c κs = tt
+known-minus-requires : tie.Need-known-minus-requires Inv-loop μ-loop
+known-minus-requires c κs =
+    let l = c .before .before .loop in
+    let w = c .before .before .before .before .pre in
+    omega (arith, named-farther (l .inv) (omega arith) (w .chain) (w .within))
 
 loop-less : tie.Need-loop-less Inv-loop μ-loop
 loop-less c =
     let l = c .before .before .before .loop in
     let w = c .before .before .before .before .before .pre in
-    omega (arith, named-farther (l .inv) (omega arith) (w .chain) (w .within), c .minus-at2 .ensures .is)
+    omega (arith, named-farther (l .inv) (omega arith) (w .chain) (w .within), c .known-minus .ensures .is)
 
 loop-again : tie.Need-loop-again Inv-loop μ-loop
 loop-again c =
     let l = c .before .before .before .loop in
-    record { below = omega arith; on = λ m size. named-on (l .inv) (omega arith); names = c .minus-at2 .ensures .is }
+    record { below = omega arith; on = λ m size. named-on (l .inv) (omega arith); names = c .known-minus .ensures .is }
 
 returns : tie.Need-returns Inv-loop μ-loop
 returns c =
@@ -64,7 +67,7 @@ prior-spec =
     μ-loop
     minus-at-requires
     loop-holds
-    minus-at-requires-2
+    known-minus-requires
     loop-less
     loop-again
     returns)

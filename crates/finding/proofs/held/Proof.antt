@@ -23,14 +23,14 @@ module _ (base check : List ℤ) (n : ℕ) (w : Reached) where
 returns : tie.Need-returns
 returns c = stopped _ _ _ _ (c .if1 .taken)
 
-next-requires : tie.Need-next-requires
-next-requires c κs = search needs
+next-within-requires : tie.Need-next-within-requires
+next-within-requires c κs = search needs
 
 row-of-requires : tie.Need-row-of-requires
 row-of-requires c κs = search needs
 
 returns-2 : tie.Need-returns-2
-returns-2 c = ended _ _ _ _ (c .before .before .if1 .left) (c .before .next .ensures) (c .row-of .ensures)
+returns-2 c = ended _ _ _ _ (c .before .before .if1 .left) (c .before .next-within .ensures) (c .row-of .ensures)
 
 pub held-spec : {M : Type 1} → statement M
-held-spec = tie.close (tie.spec returns next-requires row-of-requires returns-2)
+held-spec = tie.close (tie.spec returns next-within-requires row-of-requires returns-2)

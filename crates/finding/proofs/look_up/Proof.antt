@@ -8,7 +8,7 @@ walk-requires : tie.Need-walk-requires
 walk-requires c κs = search needs
 
 held-requires : tie.Need-held-requires
-held-requires c κs = search needs
+held-requires c κs = (c .walk .ensures .inside, c .before .before .pre .1)
 
 returns : tie.Need-returns
 returns c =

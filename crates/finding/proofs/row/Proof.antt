@@ -4,13 +4,11 @@ use mathlib.Core.Path.{_≡_, sym, ap, _∙_}
 use mathlib.Core.Bool.{true, false}
 use mathlib.Core.List.{List}
 use Prim.Native.Nat.{ℕ, _-_, _≤_}
-use native.Mathlib.Omega.{arith}
 use lib.ListN.{length, take, drop}
 use lib.IntN.{ℤ}
 use borrow.Author.Needs.{needs}
-use borrow.Author.Tests.{lt-ltb}
-use Rattle.rules.specs.declared.Answer.the-variants.{Key, Absent}
-use Rattle.rules.specs.Answers.{found}
+use Rattle.rules.specs.declared.Answer.the-variants.{Key}
+use Rattle.rules.specs.Answers.{foundOrAbsent}
 use Rattle.rules.specs.Ranges.{within}
 use Rattle.rules.specs.WhatTheIndexDoes.{document01, coded, isIdentifier}
 use Rattle.rules.proofs.Choices.{was-no, was-yes}
@@ -38,13 +36,9 @@ module _ {base check : List ℤ} {key : List ℕ} {cell met n : ℕ} (right : wi
     all : coded document01 key ≡ true
     all = sym all-coded ∙ e
 
-    none : n ≡ 0 → Absent ≡ rowOrKey base check key
+    looked-up : foundOrAbsent n ≡ rowOrKey base check key
     unfolding rowOrKey isIdentifier
-    none z = rw (right, all, ← l .row-is all, z)
-
-    some : 1 ≤ n → found n ≡ rowOrKey base check key
-    unfolding rowOrKey isIdentifier
-    some h = rw (right, all, ← l .row-is all, lt-ltb 0 n h)
+    looked-up = rw (right, all, ← l .row-is all)
 
 is-right-length-requires : tie.Need-is-right-length-requires
 is-right-length-requires c κs = search needs
@@ -81,17 +75,14 @@ left-here : (c : tie.Else2) → let l = c .before .before .before in let key = l
     coded document01 (take (length key - met) (drop met key)) ≡ true
 left-here c = was-yes _ (c .before .is-coded .ensures) (c .if2 .left)
 
+found-or-absent-requires : tie.Need-found-or-absent-requires
+found-or-absent-requires c κs = search needs
+
 returns-3 : tie.Need-returns-3
 returns-3 c =
-    let e = c .before .before .before in
+    let e = c .before in
     let l = e .before .before .before in
-    none (right-here (l .before)) (l .look-up .ensures) (left-here e) (c .if3 .taken)
-
-returns-4 : tie.Need-returns-4
-returns-4 c =
-    let e = c .before .before .before in
-    let l = e .before .before .before in
-    some (right-here (l .before)) (l .look-up .ensures) (left-here e) (omega arith)
+    c .found-or-absent .ensures ∙ looked-up (right-here (l .before)) (l .look-up .ensures) (left-here e)
 
 pub row-spec : {M : Type 1} → statement M
 row-spec =
@@ -105,5 +96,5 @@ row-spec =
     part-is-coded-end
     is-coded-requires
     returns-2
-    returns-3
-    returns-4)
+    found-or-absent-requires
+    returns-3)

@@ -14,7 +14,7 @@ use Rattle.rules.specs.WhatTheIndexDoes.{codeOf, document01, coded}
 use Rattle.rules.specs.Finding.{nextAt, walkAt}
 use Rattle.rules.proofs.Walks.{walk-stops, walk-goes-on}
 use Rattle.rules.proofs.Texts.{behind, first-and-rest, none-left, part-left}
-use Rattle.finding.specs.Reaching.{Reaches, stepAt, Walked}
+use Rattle.finding.specs.Reaching.{IsCell, Reaches, stepAt, Walked}
 use Rattle.finding.proofs.Stepping.{coded-step, step-inside, led-coded, coded-first, coded-on}
 use Rattle.finding.proofs.walk.Statement.{statement}
 use Rattle.finding.proofs.walk.Tie as tie
@@ -22,7 +22,7 @@ use Rattle.finding.proofs.walk.Tie as tie
 -- The cell s is reached after n characters of key, and text is what is left of it: what the walk from there reaches is what the
 -- walk along all of key does, and the characters before it have codes.
 record Underway (base check : List ℤ) (s n : ℕ) (text key : List ℕ) : Type 0 where
-  inside : (1 ≤ s) × (s < length base)
+  inside : IsCell base s
   counts : n + length text ≡ length key
   rest-is : text ≡ drop n key
   left : coded document01 text ≡ coded document01 key
@@ -31,7 +31,7 @@ record Underway (base check : List ℤ) (s n : ℕ) (text key : List ℕ) : Type
 module _ {base check : List ℤ} {s n : ℕ} {text key : List ℕ} (u : Underway base check s n text key) where
   -- The walk is over: what was to be reached is s.
   over : (coded document01 key ≡ true → Reaches (walkAt base check 1 (map codeOf key)) s n) → Walked base check key s n
-  over r = record { most = omega (arith, u .counts); left = ap (coded document01) (sym (u .rest-is)) ∙ u .left; reaches = r }
+  over r = record { inside = u .inside; most = omega (arith, u .counts); left = ap (coded document01) (sym (u .rest-is)) ∙ u .left; reaches = r }
 
   ends : length text ≤ 0 → Walked base check key s n
   unfolding walkAt
