@@ -5,7 +5,7 @@
 pub mod arrays;
 mod audit;
 pub mod cases;
-mod command;
+pub mod command;
 pub mod sheets;
 pub mod table;
 pub mod text;

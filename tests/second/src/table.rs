@@ -21,7 +21,7 @@ struct Used {
     held: Held,
 }
 
-pub(crate) struct Table {
+pub struct Table {
     /// One place for each element of the arrays. Place 0 is the header's and never used.
     cells: Vec<Option<Used>>,
     size: usize,
