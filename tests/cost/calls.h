@@ -1,4 +1,4 @@
-/* The calls without the audit, over two arrays: by the proved crates (calls.rt), by plain.c, or by
+/* The calls without the audit, over two arrays: by the proved crates (calls.rt.in), by plain.c, or by
  * nothing.c, which does nothing. A find gives the row or 0, an insert and an audit the answer's
  * number, a delete the row, a listing its bytes. */
 #include <stddef.h>

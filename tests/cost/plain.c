@@ -1,7 +1,7 @@
-/* The calls of calls.rt by a plain C program of document 01's rules: the same arrays, the same chain
+/* The calls of calls.rt.in by a plain C program of document 01's rules: the same arrays, the same chain
  * of empty cells, the same cells after every command. It is unproved, and written as a C programmer
  * would from that page. Find and the audit take arrays of any contents; the others take a sound
- * table and, as those of calls.rt, ask neither KEY nor NUMBER.
+ * table and, as those of calls.rt.in, ask neither KEY nor NUMBER.
  */
 #include "calls.h"
 #include <string.h>
