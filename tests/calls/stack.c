@@ -1,16 +1,11 @@
 /* Makes each call on the deepest tables that there can be, in a thread with a small stack, and
- * prints how much of it the calls have used. A call that needs more ends the program: behind the
- * stack lies a page that cannot be touched.
+ * prints how much of it the calls have used. A call that needs more ends the program.
  * usage: stack KILOBYTES
  */
+#include "../painted.h"
 #include "zsermulat.h"
-#include <pthread.h>
-#include <stdio.h>
-#include <stdlib.h>
-#include <string.h>
-#include <sys/mman.h>
 
-enum { LENGTH = 65536, LONGEST = 32, PAGE = 65536, PAINT = 0xa5 };
+enum { LENGTH = 65536, LONGEST = 32 };
 
 static int32_t base[LENGTH], check[LENGTH];
 static uint8_t out[ZS_LISTING_MOST(LENGTH)];
@@ -26,8 +21,6 @@ static void die(const char *why) {
 }
 
 /* ---- the calls, each a thread's whole work */
-
-static void *nothing(void *unused) { return unused; }
 
 static void *fresh(void *unused) {
     answer = zs_fresh(base, LENGTH, check, LENGTH);
@@ -69,28 +62,7 @@ static void *run(void *unused) {
     return unused;
 }
 
-/* ---- a thread on a stack that is painted before and looked at after */
-
-/* The bytes of the stack that the thread has used, those that any thread uses among them. */
-static size_t used_by(void *(*work)(void *), size_t size) {
-    uint8_t *memory =
-        mmap(NULL, size + PAGE, PROT_READ | PROT_WRITE, MAP_PRIVATE | MAP_ANONYMOUS, -1, 0);
-    pthread_attr_t attributes;
-    pthread_t thread;
-    size_t untouched = 0;
-    if (memory == MAP_FAILED || mprotect(memory, PAGE, PROT_NONE) != 0)
-        die("no memory");
-    memset(memory + PAGE, PAINT, size);
-    if (pthread_attr_init(&attributes) != 0 ||
-        pthread_attr_setstack(&attributes, memory + PAGE, size) != 0 ||
-        pthread_create(&thread, &attributes, work, NULL) != 0 || pthread_join(thread, NULL) != 0)
-        die("no thread");
-    while (untouched < size && memory[PAGE + untouched] == PAINT)
-        untouched++;
-    pthread_attr_destroy(&attributes);
-    munmap(memory, size + PAGE);
-    return size - untouched;
-}
+/* ---- what they use */
 
 static size_t stack;
 static size_t most[8];
@@ -101,7 +73,7 @@ enum { FRESH, FIND, INSERT, DELETE, COMPACT, AUDIT, LIST, RUN, CALLS };
 
 /* Makes a call, which has to give this answer. */
 static void make(int call, int number) {
-    size_t used = used_by(calls[call], stack) - used_by(nothing, stack);
+    size_t used = stack_used(calls[call], stack);
     if (zs_number(answer) != number) {
         fprintf(stderr, "stack: %s answers %d, not %d\n", names[call], zs_number(answer), number);
         exit(1);

@@ -10,15 +10,12 @@
  *        measure stack ELEMENTS HITS
  *            inserts all that have room, and prints the bytes of stack that a listing uses
  */
+#include "../painted.h"
 #include "contender.h"
 #include <inttypes.h>
-#include <pthread.h>
-#include <stdlib.h>
-#include <string.h>
-#include <sys/mman.h>
 #include <unistd.h>
 
-enum { MARK = 9999, STRIDE = 4217, MOST = 65536, STACK = 1 << 20, PAINT = 0xa5 };
+enum { MARK = 9999, STRIDE = 4217, MOST = 65536, STACK = 1 << 20 };
 
 /* The rows of the table. */
 enum { FIND_HIT = 1, FIND_MISS, INSERT, DELETE, AUDIT, LIST };
@@ -125,32 +122,9 @@ static void count_calls(const char *out, size_t count, size_t count_misses) {
 
 /* ---- the stack of a listing */
 
-static void *nothing(void *unused) { return unused; }
-
 static void *list_all(void *unused) {
     list(listing);
     return unused;
-}
-
-/* The bytes that a thread has used of a stack that is painted before. */
-static size_t used_by(void *(*work)(void *)) {
-    uint8_t *memory = mmap(NULL, STACK, PROT_READ | PROT_WRITE, MAP_PRIVATE | MAP_ANONYMOUS, -1, 0);
-    pthread_attr_t attributes;
-    pthread_t thread;
-    size_t untouched = 0;
-    if (memory == MAP_FAILED)
-        die("no memory");
-    memset(memory, PAINT, STACK);
-    if (pthread_attr_init(&attributes) != 0 ||
-        pthread_attr_setstack(&attributes, memory, STACK) != 0 ||
-        pthread_create(&thread, &attributes, work, NULL) != 0 || pthread_join(thread, NULL) != 0)
-        die("no thread");
-    while (untouched < STACK && memory[untouched] == PAINT)
-        untouched++;
-    munmap(memory, STACK);
-    if (untouched == 0)
-        die("a listing needs more than 1 MB of stack");
-    return STACK - untouched;
 }
 
 int main(int count, char **words) {
@@ -170,7 +144,7 @@ int main(int count, char **words) {
         count_audit();
         save_listing(words[4], 3, count_list());
     } else {
-        printf("%zu\n", used_by(list_all) - used_by(nothing));
+        printf("%zu\n", stack_used(list_all, STACK));
     }
     return 0;
 }

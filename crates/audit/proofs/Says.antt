@@ -52,7 +52,7 @@ module _ {n : ℕ} (r : Bool) (is : r ≡ leb 1 n) where
   granted-some e = tested-some (not-false r e)
 
   pub says-some : Says (1 ≤ n) r
-  says-some = record { yes = tested-some; no = λ e h. let z = tested-none e in omega arith }
+  says-some = record { yes = tested-some; no = λ e. clash (tested-none e) }
 
 -- An answer that equals a test says whether the test passes, and the other way round.
 pub says-as : {r s : Bool} → r ≡ s → Says (s ≡ true) r

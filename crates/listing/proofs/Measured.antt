@@ -18,11 +18,11 @@ use Rattle.tree.specs.Sums.{sumTo}
 use Rattle.tree.proofs.Elements.{read-parent}
 use Rattle.tree.proofs.Finding.{row-same}
 use Rattle.tree.proofs.SevenRules.{rules-render}
+use Rattle.tree.proofs.Steps.{last-step}
 use Rattle.tree.proofs.Trees.{based-pos, row-pos, step-far}
 use Rattle.listing.specs.Visiting.{DEEPEST}
 use Rattle.listing.specs.Measuring.{stepsAt, lineAt}
 use Rattle.tree.proofs.Sums.{sum-same}
-use Rattle.tree.proofs.OnTheWay.{way-step}
 use Rattle.tree.proofs.LeafByLeaf.{listing-sum}
 
 module _ (base check : List ℤ) where
@@ -37,7 +37,7 @@ module _ (base check : List ℤ) where
   steps-path w (suc k) [] {t} e h l = rw (eq-eqb t 1 (sym e))
   steps-path w zero (c ∷ p) e h l = absurd (omega arith)
   steps-path w (suc k) (c ∷ p) {t} e h l =
-      let u = way-step w c p e h in
+      let u = last-step T c p e h in
       let v : plusAt check t ≡ node T p = sym (read-parent base check t (step-far w u)) ∙ u .back in
       rw (ne-eqb t 1 (λ i. omega (arith, step-far w u)), v) (ap suc (steps-path w k p refl (based-pos w (node T p) (u .based)) (omega arith)))
 

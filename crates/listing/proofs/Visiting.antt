@@ -14,7 +14,7 @@ use Rattle.rules.specs.Listing.{entry, listed, lineOf}
 use Rattle.rules.proofs.Digits.{length-line}
 use Rattle.tree.proofs.Listing.{listed-within}
 use Rattle.text.specs.Lines.{HasRoom}
-use Rattle.listing.specs.Visiting.{linesBelow, linesTried, linesUnder, speltWith, Room, Visits, TriesNext, Tries, Lists, Spells, firstFound}
+use Rattle.listing.specs.Visiting.{linesBelow, linesTried, linesUnder, speltWith, Visits, TriesNext, Tries, Lists, Spells, firstFound}
 use Rattle.listing.proofs.Writing.{lists-none, room-first, room-second, lists-then}
 use Rattle.listing.proofs.Beginnings.{begun-length, spells-begin}
 use Rattle.listing.proofs.FirstFound.{first-within, first-same}
@@ -23,7 +23,7 @@ use Rattle.listing.proofs.LinesFound.{tried-none, tried-next, under-non
 -- ---- the same bytes
 
 module _ {u v : List ℕ} (e : u ≡ v) {out : List ℕ} {at : ℕ} where
-  room-as : Room u out at → Room v out at
+  room-as : HasRoom out at u → HasRoom out at v
   room-as f = rw e at f
 
   lists-as : {out′ : List ℕ} {r : ℕ} → Lists v out out′ at r → Lists u out out′ at r
@@ -113,7 +113,7 @@ module _ {base check : List ℤ} {s depth : ℕ} {key₀ : List ℕ} {n : ℕ} {
     split : linesTried base check s left depth (take n key) ≡ next-lines ++ behind
     split = tried-next base check (asked .whole) s depth (take n key) some
 
-    fitting : Room (next-lines ++ behind) out end
+    fitting : HasRoom out end (next-lines ++ behind)
     fitting = room-as split (asked .fits)
 
     pub trying-next : TriesNext base check s left depth key n out end
@@ -153,14 +153,14 @@ module _ {base check : List ℤ} {s depth : ℕ} {characters : List ℕ} {n : �
     one-line = below-leaf base check (g .whole) s depth (take n characters) is some
 
     pub leaf-room : HasRoom out at (lineOf (entry (take n characters) row))
-    leaf-room = room-as one-line (g .fits) .enough
+    leaf-room = room-as one-line (g .fits)
 
     -- Its length, and the byte after it.
     leaf-length : length (lineOf (entry (take n characters) row)) ≡ 11 + 2 * n
     leaf-length = length-line (entry (take n characters) row) ∙ ap (λ (k : ℕ). 11 + 2 * k) (begun-length (g .beginning))
 
     pub leaf-end : at + 11 + 2 * n ≤ length out
-    leaf-end = omega (arith, leaf-room, leaf-length)
+    leaf-end = omega (arith, leaf-room .enough, leaf-length)
 
     pub leaf-lists : {out′ : List ℕ} → out′ ≡ sets out at (lineOf (entry (take n characters) row)) →
         Lists lines-below out out′ at (at + 11 + 2 * n)

@@ -47,7 +47,7 @@ module _ {P : Profile} {table : Table} (w : Sound P table) where
   abbrev K : ℕ
   K = suc (P .limit)
 
-  leaf-path : (u : ℕ) → 1 ≤ T u .row → (p : List ℕ) × (node T p ≡ u) × (length p ≤ K)
+  pub leaf-path : (u : ℕ) → 1 ≤ T u .row → (p : List ℕ) × (node T p ≡ u) × (length p ≤ K)
   leaf-path u h = go (w .tree .reach u (row-used (w .tree) u h))
     where
       go : (p : List ℕ) × (node T p ≡ u) → (p : List ℕ) × (node T p ≡ u) × (length p ≤ K)

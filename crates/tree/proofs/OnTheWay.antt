@@ -44,12 +44,9 @@ module _ {P : Profile} {T : Cells} {size : ℕ} (w : Tree P T size) where
 
   -- From a cell to which a path leads, the way goes on from the cell before the last label.
   module _ (c : ℕ) (path : List ℕ) {t : ℕ} (leads : node T (c ∷ path) ≡ t) (pos : 1 ≤ t) where
-    pub way-step : Step T (node T path) c t
-    way-step = last-step T c path leads pos
-
     above-on : (k : ℕ) {s : ℕ} → t ≢ s → above T (suc k) s t ≡ above T k s (node T path)
     unfolding above
-    above-on k {s} d = rw (ne-eqb t s d, way-step .back)
+    above-on k {s} d = rw (ne-eqb t s d, last-step T c path leads pos .back)
 
   -- The root is on every way.
   pub root-above : (k : ℕ) (p : List ℕ) {t : ℕ} → node T p ≡ t → 1 ≤ t → length p ≤ k → above T k 1 t ≡ true
@@ -57,7 +54,7 @@ module _ {P : Profile} {T : Cells} {size : ℕ} (w : Tree P T size) where
   root-above k [] f l h = above-self k (sym f)
   root-above zero (c ∷ p) f l h = absurd (omega arith)
   root-above (suc k) (c ∷ p) {t} f l h =
-      let u = way-step c p f l in
+      let u = last-step T c p f l in
       above-on c p f l k (λ e. omega (arith, step-far w u)) ∙ root-above k p refl (based-pos w (node T p) (u .based)) (omega arith)
 
   -- A path to a cell on the way is no longer, and shorter unless it is the same cell.
@@ -68,7 +65,7 @@ module _ {P : Profile} {T : Cells} {size : ℕ} (w : Tree P T size) where
   above-shorter (suc k) q {s} {t} e h [] f l a = ⊎-elim inl
       (λ d. absurd (true≢false (sym a ∙ rw (ne-eqb t s d, ← f, w .root-parent) (above-zero k h)))) (same? t s)
   above-shorter (suc k) q {s} {t} e h (c ∷ p) f l a = ⊎-elim inl
-      (λ d. let u = way-step c p f l in
+      (λ d. let u = last-step T c p f l in
       ⊎-elim (λ v. inr (omega (arith, ap length (one-path w q p e v h)))) (λ m. inr (omega arith))
       (above-shorter k q e h p refl (based-pos w (node T p) (u .based)) (sym (above-on c p f l k d) ∙ a)))
       (same? t s)
@@ -116,7 +113,7 @@ module _ {P : Profile} {T : Cells} {size : ℕ} (w : Tree P T size) where
         go : (next T s c ≡ 0) ⊎ (1 ≤ next T s c) → via (suc k) s t x c ≡ via k s (node T p) x c
         go (inl z) = rw (eq-eqb (next T s c) 0 z)
         go (inr h) =
-            let o : t ≢ next T s c = λ e. d (sym (way-step a p f l .back) ∙ ap (λ u. T u .parent) e ∙ next-step T {s = s} {c = c} h .back) in
+            let o : t ≢ next T s c = λ e. d (sym (last-step T a p f l .back) ∙ ap (λ u. T u .parent) e ∙ next-step T {s = s} {c = c} h .back) in
             rw (above-on a p f l k o)
 
     -- A cell other than s has s on its way exactly if one child of s is on it.
@@ -129,8 +126,8 @@ module _ {P : Profile} {T : Cells} {size : ℕ} (w : Tree P T size) where
         rw (← f) (above-root k (step-far w (next-step T {s = s} {c = listed P i} m))))))
     above-split zero x (c ∷ p) f l h d = absurd (omega arith)
     above-split (suc k) x (c ∷ p) {t} f l h d = ⊎-elim
-        (λ e. rw (above-on c p f l k d, above-self k e) (via-one (rw e at (way-step c p f l)) k x))
+        (λ e. rw (above-on c p f l k d, above-self k e) (via-one (rw e at (last-step T c p f l)) k x))
         (λ o. sum-same (P .greatest) _ _ (λ i a b. via-on k x (listed P i) c p f l o)
-        ∙ above-split k x p refl (based-pos w (node T p) (way-step c p f l .based)) (omega arith) o
+        ∙ above-split k x p refl (based-pos w (node T p) (last-step T c p f l .based)) (omega arith) o
         ∙ ap (λ (b : Bool). cond b x 0) (sym (above-on c p f l k d)))
         (same? (node T p) s)
