@@ -1,5 +1,7 @@
 // Rules 1 to 7 of document 01, decided on arrays of any contents. No number met there leads outside them: a cell is read where it is
 // known to lie within. Each cell is looked at twice, and the climbs to the root share their upper parts.
+#![tactic(auto)]
+
 ghost use Rattle.std.specs.Prelude.{◌≡◌, true, ◌≤◌, ◌<◌, length};
 ghost use Rattle.numbers.specs.Stored.{plus_at};
 ghost use Rattle.rules.specs.WhatTheIndexDoes.{document01};

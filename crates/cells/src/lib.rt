@@ -1,5 +1,7 @@
 // Claiming a cell, releasing one, and the size. The chain is walked from its head to the cell's place; of the links before that
 // place only the last is rewritten.
+#![tactic(auto)]
+
 ghost use Rattle.std.specs.Prelude.{true, ◌≡◌, max, set};
 ghost use Rattle.numbers.specs.Stored.{negative};
 ghost use Rattle.rules.specs.WhatTheIndexDoes.{is_row};

@@ -1,4 +1,6 @@
 // Compaction: steps that move the children of one node to a smaller base, as long as that is possible.
+#![tactic(auto)]
+
 ghost use Rattle.rules.specs.WhatTheIndexDoes.{document01};
 ghost use Rattle.rules.specs.DeletionAndCompaction.{compaction_step, compacted};
 ghost use Rattle.cells.specs.Edits.{SomeTable, EveryTable};

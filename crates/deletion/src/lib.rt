@@ -1,4 +1,6 @@
 // Document 01, 'Deletion and compaction', on a table known to be sound.
+#![tactic(auto)]
+
 ghost use Rattle.std.specs.Prelude.{true, ◌≡◌};
 ghost use Rattle.rules.specs.WhatTheIndexDoes.{document01};
 ghost use Rattle.rules.specs.ASoundTable.{sound};

@@ -1,5 +1,7 @@
 // Document 01, 'Finding': the walk through two arrays of any contents. At each step the rest of the identifier is handed on as
 // a part of the caller's slice, together with the cell reached.
+#![tactic(auto)]
+
 ghost use Rattle.std.specs.Prelude.{◌≤◌, ◌<◌, ◌≡◌, leb, length, get_or};
 ghost use Rattle.rules.specs.WhatTheIndexDoes.{GREATEST};
 ghost use Rattle.rules.specs.Answers.{found_or_absent};

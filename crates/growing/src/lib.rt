@@ -1,5 +1,7 @@
 // A branch put below a node, label by label, and taken back where a placement does not fit: each step takes back what it did, so
 // that every element is as it was.
+#![tactic(auto)]
+
 ghost use Rattle.rules.specs.WhatTheIndexDoes.{last_cell};
 ghost use Rattle.cells.specs.Edits.{Shown, SomeTable, EveryTable};
 ghost use Rattle.growing.specs.Branches.{Label, growth, Grows, Retracts, retracted, Grown};

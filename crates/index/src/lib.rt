@@ -1,5 +1,7 @@
 // The public calls. None of them asks anything of its caller: each has a promise for arrays of any lengths and contents and for
 // any command, refused ones included, and it determines the answer and every element and byte that is lent.
+#![tactic(auto)]
+
 ghost use Rattle.std.specs.Prelude.{length, replicate, ◌≡◌};
 ghost use Rattle.numbers.specs.Stored.{positive};
 ghost use Rattle.rules.specs.WhatTheIndexDoes.{document01};

@@ -1,5 +1,7 @@
 // Document 01, 'Insertion', on a table known to be sound. It is carried out label by label; where a placement in its course does
 // not fit, each step takes back what it did, so that every element is as it was.
+#![tactic(auto)]
+
 ghost use Rattle.rules.specs.WhatTheIndexDoes.{document01, last_cell};
 ghost use Rattle.rules.specs.Commands.{insert};
 ghost use Rattle.rules.specs.Rendering.{chained};

@@ -1,5 +1,7 @@
 // A node's children: their codes, and their move to another base, one child after another. The codes are taken before the first
 // move; to ask for a cell's parent while children move is wrong, for one that has moved can stand where another is looked for.
+#![tactic(auto)]
+
 ghost use Rattle.rules.specs.Insertion.{relocate};
 ghost use Rattle.tree.specs.MovingInTurn.{hop};
 ghost use Rattle.cells.specs.Edits.{Shown, SomeTable, EveryTable, celled};

@@ -69,7 +69,7 @@ negated x e = +ℤ_idl _ ∙ ap neg_ℤ e
 
 -- x, read after it was cast to 64 bits.
 pub wide : (x : ℤ) → SFits w32 x → to_z w64 (of_z w64 (to_z w32 (of_z w32 x))) ≡ x
-wide x f = rw (to_z-of_z f) (to_z-of_z (sfits_widen tt f))
+wide x f = rw (to_z-of_z f) (to_z-of_z {w = w64} (sfits_widen {w = w32} {w' = w64} tt f))
 
 -- ---- a number that is written
 

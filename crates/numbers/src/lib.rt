@@ -1,6 +1,8 @@
 // What a stored i32 says on either side of 0, and how one is written. Reads and stores are total: past the end a read
 // gives 0 and a store does nothing, so that no caller argues about bounds. Where a loop reads for every cell, `_in` and `known_`
 // read without a test what its caller knows.
+#![tactic(auto)]
+
 ghost use Rattle.std.specs.Prelude.{◌≡◌, ◌+◌, ◌≤◌, ◌<◌, leb, eqb, length, set};
 ghost use Rattle.numbers.specs.Stored.{positive, negative, plus_of, minus_of, plus_at, minus_at, away_at, greatest_stored, Reads};
 

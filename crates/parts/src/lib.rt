@@ -1,5 +1,7 @@
 // A sheet that comes in parts, on a table known to be sound. Of each part the finished lines are answered; the last one, if it is not
 // finished, is carried over to the front of the next part. However the sheet is cut into parts, its answers are the same.
+#![tactic(auto)]
+
 ghost use Rattle.std.specs.Prelude.{◌≡◌, min};
 ghost use Rattle.parts.specs.Parts.{Cut, Carries, Carried, AnswersPart, PartAnswered};
 

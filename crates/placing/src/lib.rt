@@ -1,4 +1,6 @@
 // Document 01, 'Placement': the base for a set of codes, sought along the chain of empty cells.
+#![tactic(auto)]
+
 ghost use Rattle.std.specs.Prelude.{◌≡◌, ℕ, ◌≤◌, ◌<◌, length};
 ghost use Rattle.rules.specs.WhatTheIndexDoes.{GREATEST};
 ghost use Rattle.rules.specs.ASoundTable.{size_at};

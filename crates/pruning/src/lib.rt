@@ -1,4 +1,6 @@
 // The cells that a deletion frees after the leaf: each parent left without a child.
+#![tactic(auto)]
+
 ghost use Rattle.std.specs.Prelude.{◌≡◌};
 ghost use Rattle.rules.specs.WhatTheIndexDoes.{GREATEST, document01};
 ghost use Rattle.rules.specs.Table.{childless};

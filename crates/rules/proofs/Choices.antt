@@ -32,11 +32,11 @@ passes false h = absurd (h refl)
 
 -- After `if !r`, where r is what a test gave.
 module _ {s : Bool} (r : Bool) (is : r ≡ s) where
-  pub was_no : not r ≡ true → s ≡ false
-  was_no e = sym is ∙ not-true r e
+  pub was_no : r ≡ false → s ≡ false
+  was_no e = sym is ∙ e
 
-  pub was_yes : not r ≡ false → s ≡ true
-  was_yes e = sym is ∙ not-false r e
+  pub was_yes : r ≡ true → s ≡ true
+  was_yes e = sym is ∙ e
 
 -- A number that is tested not to be 0.
 pub not_zero : (n : ℕ) → eqb n 0 ≡ false → 1 ≤ n

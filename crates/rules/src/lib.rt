@@ -1,12 +1,14 @@
 // Document 01's types (rows and cells, kept apart, the alphabet of label codes, what a call answers) and the tests of lengths,
 // identifiers and rows that the calls ask. What the document says of them stands in specs/, a file for each of its sections.
+#![tactic(auto)]
+
 ghost use Rattle.std.specs.Prelude.{◌≡◌, length};
 ghost use Rattle.rules.specs.Ranges.{within};
 ghost use Rattle.rules.specs.WhatTheIndexDoes.{Code, character_of, document01, right_lengths, is_identifier, coded, is_row};
 ghost use Rattle.rules.specs.Answers.{number, value};
 
 // A row's number. It is no cell: nothing can be looked up in the arrays by it.
-#[derive(Drop)]
+#[derive(Clone, Copy)]
 pub struct Row(pub u32);
 
 impl Row {
@@ -14,11 +16,11 @@ impl Row {
 }
 
 // A cell's number. It is no row: no call answers with one.
-#[derive(Drop)]
+#[derive(Clone, Copy)]
 pub struct Cell(pub usize);
 
 // The label codes.
-#[derive(Drop)]
+#[derive(Clone, Copy)]
 pub struct Alphabet;
 
 impl Alphabet {
@@ -118,7 +120,7 @@ pub fn is_row(n: usize) -> bool
 }
 
 // What a call answers.
-#[derive(Drop)]
+#[derive(Clone, Copy)]
 pub enum Answer {
     // Done, with a count: children that changed cell, moves, bytes or lines; 0 where the document names no value.
     Done(usize),

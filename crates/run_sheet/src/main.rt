@@ -2,6 +2,8 @@
 // there, answers the lines that are finished and writes their answers before it reads on; what it holds at a time is bounded, however
 // long the sheet is. A program has no exit status of its own: where the sheet could not be answered to its end, it says why in one line
 // on standard error, and otherwise nothing.
+#![tactic(auto)]
+
 ghost use Rattle.std.specs.Prelude.{◌*◌, ◌≤◌, length};
 ghost use Rattle.run_sheet.specs.Turns.{Ready, ReadBehind, Reached, Taken};
 

@@ -1,5 +1,7 @@
 // Document 01, 'A run', on a table known to be sound: the lines of a sheet are answered in turn, by the functions that the single
 // calls hand on to after their audit.
+#![tactic(auto)]
+
 ghost use Rattle.std.specs.Prelude.{true, ◌≡◌};
 ghost use Rattle.std.proofs.Math.Option.{some};
 ghost use Rattle.rules.specs.WhatTheIndexDoes.{document01};

@@ -1,4 +1,6 @@
 // Hexadecimal text: what is written into a lent buffer, and what is read from a line.
+#![tactic(auto)]
+
 ghost use Rattle.std.specs.Prelude.{◌≡◌, ◌+◌, ◌≤◌, length};
 ghost use Rattle.std.proofs.lemmas.List.Edits.{sets};
 ghost use Rattle.rules.specs.Listing.{entry, hex, hexes, line_of};

@@ -1,6 +1,8 @@
 // The library for C: the eight public calls under plain names, each slice a pointer and a length. A call's answer is handed over as one
 // 64-bit number, which holds the answer's number and its value; include/zsermulat.h has the functions that take it apart. As in
 // `index`, none of the calls asks anything of its caller, and each promise determines the answer and all that is lent.
+#![tactic(auto)]
+
 ghost use Rattle.std.specs.Prelude.{◌≡◌, ◌<◌};
 ghost use Rattle.rules.specs.Answers.{value};
 ghost use Rattle.rules.specs.WhatTheIndexDoes.{document01};

@@ -1,0 +1,312 @@
+#!/usr/bin/env python3
+"""Turns a function's older Proof.antt into Answers.antt and Invariants.antt, as far as text goes; the check says what is left by hand.
+
+usage: answers.py OLD NEW NAMES [FUNCTION..]
+OLD is the crate's folder with the older proofs, NEW the crate's folder today, NAMES the names.json of
+`rt check --generated FOLDER --old-names` run in NEW. Goals that were left to the search are not written: today's check finds them.
+With no FUNCTION every Proof.antt of OLD is turned.
+"""
+import json
+import os
+import re
+import sys
+
+TOKEN = r"[^\s(){}\[\];,.:\"`]+"
+
+
+def norm(s):
+    return s.replace("-", "_")
+
+
+class Function:
+    def __init__(self, data):
+        self.places = {}      # normal old name -> (old name, parent's old name, old step, new step, callee)
+        self.show = {}
+        for (old, parent, (so, sn), callee, _), new in zip(data["places"], data["places_by_name"]):
+            self.places[norm(old)] = (old, parent, so, sn, callee)
+            self.show[norm(old)] = new
+        self.steps = {}
+        for old, parent, so, sn, callee in self.places.values():
+            if so:
+                self.steps.setdefault(norm(so), (sn, callee))
+        self.needs = {}
+        for (old, new), at in zip(data["needs"], data["asked_at"]):
+            self.needs[norm(old)] = (new, at[0])
+        self.loops = {norm(l[0][0]): (l[0][1], l[1]) for l in data["loops"]}
+
+    def chain(self, place):
+        out = []
+        while place is not None:
+            out.append(norm(place))
+            place = self.places[norm(place)][1] if norm(place) in self.places else None
+        return out
+
+    def dist(self, a, b):
+        c = self.chain(a)
+        return c.index(norm(b)) if norm(b) in c else None
+
+    def need(self, name):
+        n = norm(name)
+        for cut in ("", "overflow_", "slice_bounds_", "slice_"):
+            if n.startswith(cut) and n[len(cut):] in self.needs:
+                return self.needs[n[len(cut):]]
+        if n.startswith("slice_bounds_"):
+            m = n[len("slice_bounds_"):]
+            if "part_" + m in self.needs:
+                return self.needs["part_" + m]
+        return None
+
+
+def muts_of(root, callee):
+    """The names of a function's parameters by &mut, from its crate's source; the callee is crate::..::name."""
+    if not callee:
+        return []
+    crate, name = callee.split("::")[0], callee.split("::")[-1]
+    src = os.path.join(root, crate, "src")
+    for folder, _, files in os.walk(src):
+        for f in files:
+            text = open(os.path.join(folder, f), encoding="utf-8").read()
+            m = re.search(r"\bfn " + re.escape(name) + r"(?:<[^>]*>)?\(([^{]*?)\)(?: ->|\n|\s*(?:requires|ensures|\{))", text, re.S)
+            if m:
+                return re.findall(r"(\w+): &(?:'\w+ )?mut ", m.group(1))
+    return []
+
+
+def blocks(text):
+    """Top declarations; the recursion's `module _ (n : ℕ) where` is opened and dedented, another module stays whole."""
+    out, cur, dedent, whole = [], [], False, False
+    for line in text.split("\n"):
+        top = bool(line.strip()) and not line.startswith(" ")
+        if top:
+            whole = False
+        if re.match(r"module _ \((m|n) : ℕ\) where", line):
+            dedent = True
+            if cur:
+                out.append(cur)
+            cur = []
+            continue
+        if top and line.startswith("module _"):
+            if cur and not all(l.startswith("--") for l in cur):
+                out.append(cur)
+                cur = []
+            whole, dedent = True, False
+        elif top:
+            dedent = False
+        if whole:
+            cur.append(line)
+            continue
+        if dedent and line.startswith("  "):
+            line = line[2:]
+        if line.strip() == "":
+            if cur:
+                out.append(cur)
+            cur = []
+        else:
+            if top and cur and any(l.startswith("module _") for l in cur):
+                out.append(cur)
+                cur = []
+            cur.append(line)
+    if cur:
+        out.append(cur)
+    return out
+
+
+def turn(root, old, new, names, rel):
+    text = open(os.path.join(old, "proofs", rel, "Proof.antt"), encoding="utf-8").read()
+    crate = os.path.basename(new)
+    dotted = rel.replace("/", ".")
+    keys = [k for k in names if k.startswith(f"Rattle-{crate}-proofs.{dotted}.Lts")]
+    by_alias = {}
+    if not keys:
+        print(f"{rel}: no names")
+        return
+    for k in keys:
+        by_alias[k.split(".Lts")[-1].strip("-")] = Function(names[k])
+    head = [l for l in text.split("\n") if l.startswith("--")]
+    head = head[:next((i for i, l in enumerate(text.split("\n")) if not l.startswith("--")), 0)]
+    uses = [l for l in text.split("\n") if l.startswith("use ")]
+    alias = {}
+    for u in uses:
+        m = re.match(r"use Rattle\.\S+\.Lts-(\S+) as (\S+)", u)
+        if m:
+            alias[m.group(2)] = by_alias.get(m.group(1)) or next((f for a, f in by_alias.items() if norm(a) == norm(m.group(1))), None)
+    only = list(by_alias.values())[0]
+    alias["tie"] = only
+    gone = re.compile(r"\.(Statement|Tie|Reads|Kinds|Lts\S*)(\.\{[^}]*\})?( as \S+)?$|PlainCycle|Fn\.Kinds|\.proofs\.\+\S+\.\{statement\}")
+    keep = [u for u in uses if not gone.search(u)]
+    TYPE = re.compile(r"(" + "|".join(map(re.escape, alias)) + r")\.((?:After|At|In|Then|Else|Start|Need)[^\s()]*)((?: \([^()]*\)| [\w.-]*(?:Post|invariant_loop\w*|decreases_loop\w*|claims|Pre))*)")
+    helpers = {}
+    for b in blocks(text):
+        m = re.match(r"(?:abbrev |pub )*(" + TOKEN + r")\s*:\s*(.*)", " ".join(x.strip() for x in b))
+        if m:
+            t = TYPE.search(m.group(2).split(" = ")[0] if False else m.group(2))
+            if t and not t.group(2).startswith("Need-") and re.match(r"\(?(?:\w+ : )?" + re.escape(t.group(1)), m.group(2).lstrip("(")):
+                helpers[m.group(1)] = (alias[t.group(1)], t.group(2))
+    answers, invariants, left = [], [], []
+
+    def body_of(fn, place, lines, var="c"):
+        s = "\n".join(lines)
+        roots = {var: place}
+        # aliases: let X = VAR.before.. in
+        for m in re.finditer(r"let (\w+) = (\w+)((?:\.before)*) in", s):
+            if m.group(2) in roots:
+                roots[m.group(1)] = roots[m.group(2)]
+        for m in re.finditer(r"let (\w+) = \(?(" + "|".join(map(re.escape, helpers)) + r") (\w+)(?:\.before)*\)? in" if helpers else r"$^", s):
+            if m.group(3) in roots:
+                roots[m.group(1)] = roots[m.group(3)]
+
+        def arg(m):
+            h, v = m.group(1), m.group(2)
+            if v not in roots:
+                return m.group(0)
+            d = fn.dist(roots[v], helpers[h][1])
+            return f"{h} {v}" + (".before" * d if d is not None else ".BEFORE")
+        if helpers:
+            s = re.sub(r"(?<![\w.-])(" + "|".join(map(re.escape, sorted(helpers, key=len, reverse=True))) + r") (\w+)((?:\.before)*)(?![\w.])", arg, s)
+
+        def path(m):
+            v, rest = m.group(1), m.group(2)
+            if v not in roots:
+                return m.group(0)
+            parts = [p for p in rest.split(".")[1:]]
+            kept = [p for p in parts]
+            if "before" in kept and any(p != "before" for p in kept):
+                while kept and kept[0] == "before":
+                    kept.pop(0)
+            if not kept or kept[0] == "before":
+                return m.group(0)
+            return v + fields(kept)
+
+        def fields(kept):
+            step = fn.steps.get(norm(kept[0]))
+            callee = None
+            if step:
+                kept[0], callee = step
+            elif kept[0] == "pre":
+                kept[0] = "requires"
+            if len(kept) > 1 and kept[1] == "inv":
+                kept[1] = "invariant"
+            if len(kept) > 2 and kept[1] in ("new", "auto") and callee:
+                muts = muts_of(root, callee)
+                i, n = 2, 0
+                while i < len(kept) and kept[i] == "1":
+                    n += 1
+                    i += 1
+                if i < len(kept) and kept[i] == "0" and n < len(muts):
+                    kept[2:i + 1] = [muts[n]]
+            return "".join("." + k for k in kept)
+        s = re.sub(r"(?<![\w.-])(\w+)((?:\.[\w'₀-₉-]+)+)", path, s)
+        # what a helper gives, and a field of it
+        s = re.sub(r"(\(" + "(?:" + "|".join(map(re.escape, helpers)) + r") [\w.]+\))((?:\.[\w'-]+)+)" if helpers else r"$^", lambda m: m.group(1) + fields(m.group(2).split(".")[1:]), s)
+        return s
+
+    def types(s, fn):
+        def one(m):
+            f = alias[m.group(1)]
+            p = norm(m.group(2))
+            return "goal." + f.show.get(p, m.group(2) + "-UNKNOWN")
+        return TYPE.sub(one, s)
+
+    pending = []
+    for b in blocks(text):
+        flat = b[0]
+        if flat.startswith("use ") or all(l.startswith("use ") or l.startswith("--") for l in b):
+            if all(l.startswith("--") for l in b):
+                pending += b
+            continue
+        if any(l.startswith("module _") for l in b):
+            answers.append("\n".join(pending + b).rstrip())
+            pending = []
+            continue
+        comments = [l for l in b if l.startswith("--")]
+        b = [l for l in b if not l.startswith("--") and not l.startswith("use ")]
+        if not b:
+            continue
+        m = re.match(r"(?:abbrev |pub |unfoldable )*(" + TOKEN + r")\s*:", b[0])
+        if not m:
+            left.append("\n".join(b))
+            continue
+        name = m.group(1)
+        if name.endswith("_spec") or name.endswith("-spec") or name in ("claims", "at", "below") or re.match(r"\w+_(at|below)$", name) and "In " in b[0] or "Claims" in b[0]:
+            continue
+        # the lines of the signature end where the first clause begins
+        at = next((i for i in range(1, len(b)) if re.match(re.escape(name) + r"\b.* =($| )", b[i]) or re.match(re.escape(name) + r" =", b[i])), len(b))
+        sig, body = b[:at], b[at:]
+        need = re.search(r"\b(" + "|".join(map(re.escape, alias)) + r")\.Need-([^\s]+)", " ".join(sig))
+        inv = re.match(r"(invariant|decreases)_loop", name)
+        if need:
+            fn = alias[need.group(1)]
+            to = fn.need(need.group(2))
+            joined = "\n".join(body)
+            if re.search(r"= (search rules|refl|omega arith|tt)$", joined.strip()) and len(body) == 1:
+                continue
+            if not to:
+                left.append(f"-- {need.group(2)}\n" + joined)
+                continue
+            goal, place = to
+            unf = [l for l in sig if l.startswith("unfolding")]
+            joined = re.sub(r"^" + re.escape(name) + r" (\w+)( κs)? =", lambda k: f"{goal} {k.group(1)} =", joined)
+            v = re.match(re.escape(goal) + r" (\w+) =", joined)
+            joined = body_of(fn, place, joined.split("\n"), v.group(1) if v else "c")
+            answers.append("\n".join(pending + comments + [f"pub {goal} : goal.{goal}"] + unf + [joined]))
+            pending = []
+        elif inv:
+            loop = name[len(inv.group(1)) + 1:]
+            fn = only
+            to = fn.loops.get(norm(loop))
+            joined = "\n".join(body)
+            p = re.match(re.escape(name) + r" (.*?) =", joined)
+            ps = p.group(1).split() if p else []
+            joined = joined[p.end():] if p else joined
+            table = {}
+            for q in ps:
+                table[q] = ("l.initial." + q[:-1]) if q.endswith("₀") else "l." + q
+            joined = re.sub(r"(?<![\w.'-])[\w₀']+(?![\w'₀])", lambda k: table.get(k.group(0), k.group(0)), joined)
+            goal = f"{inv.group(1)}-{to[0]}" if to else name
+            invariants.append("\n".join(pending + comments + [f"abbrev pub {goal} : goal.{goal}", f"{goal} l ={joined}"]))
+            pending = []
+        else:
+            s = "\n".join(sig)
+            joined = "\n".join(body)
+            if name in helpers:
+                fn, place = helpers[name]
+                t = re.search(r"→ ((?:" + "|".join(map(re.escape, alias)) + r")\.(?:After|At|In|Then|Else|Start)[^\s()]*)[^→]*$", s)
+                if t and s.count("→") == 1:
+                    v = re.match(re.escape(name) + r" (\w+) =", joined)
+                    d = fn.dist(place, t.group(1).split(".", 1)[1])
+                    joined = f"{name} {v.group(1)} = {v.group(1)}" + (".before" * d if d is not None else ".BEFORE")
+                else:
+                    v = re.search(r"\((\w+) : ", s)
+                    joined = body_of(fn, place, joined.split("\n"), v.group(1) if v else "c")
+                    s = body_of(fn, place, s.split("\n"), v.group(1) if v else "c")
+                s = types(s, fn)
+            answers.append("\n".join(pending + comments + [s, joined]))
+            pending = []
+    to = os.path.join(new, "proofs", rel)
+    os.makedirs(to, exist_ok=True)
+    base = f"Rattle.{crate}.proofs.{dotted}"
+    if answers:
+        with open(os.path.join(to, "Answers.antt"), "w", encoding="utf-8") as f:
+            f.write("\n".join(head + keep + [f"use {base}.Goals as goal", ""]) + "\n" + "\n\n".join(answers) + "\n")
+    if invariants:
+        with open(os.path.join(to, "Invariants.antt"), "w", encoding="utf-8") as f:
+            f.write("\n".join(head + keep + [f"use {base}.Given as goal", ""]) + "\n" + "\n\n".join(invariants) + "\n")
+    print(f"{rel}: {len(answers)} answers, {len(invariants)} invariants" + ("; left: " + " | ".join(x.split("\n")[0] for x in left) if left else ""))
+
+
+def main():
+    old, new, names = sys.argv[1:4]
+    new = os.path.abspath(new)
+    root = os.path.dirname(new)
+    data = json.load(open(names))
+    rels = sys.argv[4:]
+    if not rels:
+        for folder, _, files in os.walk(os.path.join(old, "proofs")):
+            if "Proof.antt" in files:
+                rels.append(os.path.relpath(folder, os.path.join(old, "proofs")))
+    for rel in sorted(rels):
+        turn(root, old, new, data, rel)
+
+
+if __name__ == "__main__":
+    main()
