@@ -30,7 +30,7 @@ taken-none to-back to-inner to-one to-pos to-same to-some too-short trim-same un
 begins walk-same word-low
 """.split()
 # Names that are Rattle's own, not this repository's.
-KEEP = {"get_or-eq_default"}
+KEEP = {"get_or-eq_default", "drop_of_length-le"}
 TOKEN = re.compile(r"[^\s(){}\[\];,.:\"`]+")
 DECLARED = re.compile(r"\s*(?:abbrev |unfoldable |pub |mutual )*([^\s(){}\[\];,.:\"`]+)(?:\s+[^:=]*)?\s*:\s")
 CLAUSE = re.compile(r"^\s*(?:let )?([^\s(){}\[\];,.:\"`]+)((?: [^=:]*)?) = ")

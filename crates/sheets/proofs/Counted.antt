@@ -6,7 +6,7 @@ use mathlib.Core.List.{List, [], ◌∷◌, ◌++◌}
 use Prim.Native.Nat.{ℕ, suc, ◌+◌, ◌-◌, ◌≤◌, ◌<◌, min}
 use native.Mathlib.Numerals.{add-one}
 use native.Mathlib.Omega.{arith}
-use lib.ListN.{length, get_or, take, drop, length-drop, take-append-drop, drop_of_length_le}
+use lib.ListN.{length, get_or, take, drop, length-drop, take-append-drop, drop_of_length-le}
 use lib.Seq.{drop-cons, take_all, drop-length}
 use lib.Dec.{eqb}
 use borrow.Author.Tests.{eq-eqb, ne_eqb, lt-ltb}
@@ -46,7 +46,7 @@ module _ (part : List ℕ) (i : ℕ) (h : i < length part) where
 
 pub none_behind : (part : List ℕ) (i : ℕ) → length part ≤ i → feeds_in (drop i part) ≡ 0
 unfolding feeds_in
-none_behind part i h = rw (drop_of_length_le part {i = i} h)
+none_behind part i h = rw (drop_of_length-le part {i = i} h)
 
 -- ---- lines
 
@@ -92,5 +92,5 @@ lines_counted (b ∷ c ∷ bs) = rw (last_same b c bs) (lines_more b (c ∷ bs) 
 pub next_line : (rest : List ℕ) (end : ℕ) → drop (min (suc end) (length rest)) rest ≡ drop (suc end) rest
 next_line rest end = ⊎_elim
     (λ (h : end < length rest). let m : min (suc end) (length rest) ≡ suc end = omega arith in rw m)
-    (λ (h : length rest ≤ end). let m : min (suc end) (length rest) ≡ length rest = omega arith in rw (m, drop-length, drop_of_length_le rest {i = suc end} (omega arith)))
+    (λ (h : length rest ≤ end). let m : min (suc end) (length rest) ≡ length rest = omega arith in rw (m, drop-length, drop_of_length-le rest {i = suc end} (omega arith)))
     (lt_or_ge end (length rest))

@@ -49,6 +49,7 @@ before_after (b ∷ bs) l cs ds = inr (refl, before_after bs l cs ds)
 
 module _ (e : Entry) (fs : List Entry) where
   among_left : (es : List Entry) → Among e es → Among e (es ++ fs)
+  among_left [] x' = elim x' [ ]
   among_left (f ∷ es) (inl p) = inl p
   among_left (f ∷ es) (inr a) = inr (among_left es a)
 

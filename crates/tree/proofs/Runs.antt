@@ -48,4 +48,6 @@ module _ {P : Profile} (trip : RoundTrip P) (last : ℕ) where
       let t' = (answered_lines P last t ls).table in (Sound P t') × (t'.size ≤ last)
   unfolding answered_lines
   lines_kept w fits [] = (w, fits)
-  lines_kept w fits (l ∷ ls) = let (w, fits) = line_kept w fits (parsed l) in lines_kept w fits ls
+  lines_kept {t = t} w fits (l ∷ ls) =
+      let (w, fits) = line_kept w fits (parsed l) in
+      lines_kept {t = (answered_line P last t (parsed l)).table} w fits ls

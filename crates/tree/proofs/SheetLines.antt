@@ -7,7 +7,7 @@ use Prim.Native.Nat.{ℕ, zero, suc, ◌+◌, ◌-◌, ◌≤◌, ◌<◌}
 use native.Mathlib.Nat.{eq-or-lt_of_le}
 use native.Mathlib.Numerals.{sub-one}
 use native.Mathlib.Omega.{arith}
-use lib.ListN.{length, get_or, take, drop, take-append-drop, drop_of_length_le, length-take}
+use lib.ListN.{length, get_or, take, drop, take-append-drop, drop_of_length-le, length-take}
 use lib.Seq.{drop-cons, take_all, get_or-take}
 use lib.Dec.{ltb, eqb}
 use borrow.Author.Tests.{eq-eqb, ne_eqb}
@@ -67,7 +67,7 @@ first_line {rest} {n} some f = ⊎_elim ends feeds (eq-or-lt_of_le f.within)
     ends : n ≡ length rest → sheet_lines rest ≡ take n rest ∷ sheet_lines (drop (suc n) rest)
     ends e =
         let all : take n rest ≡ rest = take_all n rest (omega arith) in
-        let none : drop (suc n) rest ≡ [] = drop_of_length_le rest {i = suc n} (omega arith) in
+        let none : drop (suc n) rest ≡ [] = drop_of_length-le rest {i = suc n} (omega arith) in
         rw (all, none) (lines_last rest some (rw all at f.unbroken))
 
     feeds : n < length rest → sheet_lines rest ≡ take n rest ∷ sheet_lines (drop (suc n) rest)

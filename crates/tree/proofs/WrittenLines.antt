@@ -72,7 +72,7 @@ field_at p k n rest {i} e h = rw (drop_at p (hex k n ++ rest) i e, take_at (hex 
 
 pairs_at : (p key rest : List ℕ) {i : ℕ} → length p ≡ i → ((k : ℕ) → k < length key → get_or key k 0 < 256) →
     pairs (p ++ (hexes key ++ rest)) i (length key) ≡ key
-unfolding pairs hexes
+unfolding pairs hexes hex
 pairs_at p [] rest e h = refl
 pairs_at p (b ∷ key) rest {i} e h =
     let e' : length (p ++ hex 2 b) ≡ i + 2 = rw (length-append, length_hex, e) in

@@ -1,0 +1,22 @@
+-- `are_unused` says whether every q + code is unused. The loop's invariant: the rest opens exactly if all do. The measure is the length
+-- of the rest. Assumes nothing.
+use mathlib.Core.Path.{◌≡◌, refl, sym, ◌∙◌}
+use mathlib.Core.Logic.{inl, inr}
+use mathlib.Core.Bool.{Bool, true, false}
+use mathlib.Core.List.{List}
+use Prim.Native.Nat.{ℕ, ◌+◌, ◌≤◌, ◌<◌}
+use native.Mathlib.Omega.{arith}
+use borrow.Author.Rules.{rules}
+use lib.ListN.{length, get_or}
+use Rattle.rules.specs.WhatTheIndexDoes.{GREATEST}
+use Rattle.rules.specs.Placement.{opens}
+use Rattle.rules.proofs.Texts.{behind, first_and_rest, none_left}
+use Rattle.tree.specs.Members.{Among}
+use Rattle.placing.specs.Search.{taken_at}
+use Rattle.placing.proofs.are_unused.Given as goal
+
+abbrev pub invariant-loop-rest : goal.invariant-loop-rest
+invariant-loop-rest l = Underway (taken_at l.check l.last) l.q l.rest l.codes
+
+abbrev pub decreases-loop-rest : goal.decreases-loop-rest
+decreases-loop-rest l = length l.rest

@@ -1,0 +1,28 @@
+-- `greatest` gives the greatest code. The loop's invariant: of the code at hand and the greatest of the rest, the greater is the
+-- greatest of all. The measure is the length of the rest. Assumes nothing.
+use mathlib.Core.Path.{◌≡◌, ap}
+use mathlib.Core.Logic.{⊎_elim}
+use mathlib.Core.List.{List}
+use Prim.Native.Nat.{ℕ, ◌≤◌, ◌<◌, max}
+use native.Mathlib.Omega.{arith}
+use lib.ListN.{length, get_or}
+use Rattle.rules.specs.Placement.{greatest_of}
+use Rattle.rules.proofs.Texts.{behind, first_and_rest, none_left}
+use Rattle.placing.proofs.greatest.Goals as goal
+
+greatest_first : (codes : List ℕ) → 0 < length codes → greatest_of codes ≡ max (get_or codes 0 0) (greatest_of (behind codes))
+unfolding greatest_of
+greatest_first codes h = ap greatest_of (first_and_rest codes h)
+
+greatest_none : (codes : List ℕ) → length codes ≤ 0 → greatest_of codes ≡ 0
+unfolding greatest_of
+greatest_none codes h = ap greatest_of (none_left codes h)
+
+pub loop-rest-preserved : goal.loop-rest-preserved
+loop-rest-preserved c =
+    let rest : List ℕ = c.loop-rest.rest.now in
+    let e = greatest_first rest (omega arith) in
+    ⊎_elim (λ w. omega arith) (λ w. omega arith) c.if-c-rest.branch
+
+pub returns : goal.returns
+returns c = omega (arith, greatest_none c.loop-rest.rest.now (omega arith))
