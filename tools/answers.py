@@ -142,7 +142,7 @@ def turn(root, old, new, names, rel):
             t = TYPE.search(m.group(2).split(" = ")[0] if False else m.group(2))
             if t and not t.group(2).startswith("Need-") and re.match(r"\(?(?:\w+ : )?" + re.escape(t.group(1)), m.group(2).lstrip("(")):
                 helpers[m.group(1)] = (alias[t.group(1)], t.group(2))
-    answers, invariants, left = [], [], []
+    answers, invariants, left, plain = [], [], [], []
 
     def body_of(fn, place, lines, var="c"):
         s = "\n".join(lines)
@@ -178,7 +178,7 @@ def turn(root, old, new, names, rel):
             return v + fields(kept)
 
         def fields(kept):
-            step = fn.steps.get(norm(kept[0]))
+            step = fn.steps.get(norm(kept[0])) or (kept[0].endswith("_lem") and fn.steps.get(norm(kept[0][:-4]))) or None
             callee = None
             if step:
                 kept[0], callee = step
@@ -221,6 +221,12 @@ def turn(root, old, new, names, rel):
         comments = [l for l in b if l.startswith("--")]
         b = [l for l in b if not l.startswith("--") and not l.startswith("use ")]
         if not b:
+            continue
+        r = re.match(r"(?:pub )?(?:record|data) (" + TOKEN + ")", b[0])
+        if r:
+            plain.append((r.group(1), "\n".join(pending + comments + b)))
+            answers.append(plain[-1][1])
+            pending = []
             continue
         m = re.match(r"(?:abbrev |pub |unfoldable )*(" + TOKEN + r")\s*:", b[0])
         if not m:
@@ -281,13 +287,30 @@ def turn(root, old, new, names, rel):
                     s = body_of(fn, place, s.split("\n"), v.group(1) if v else "c")
                 s = types(s, fn)
             answers.append("\n".join(pending + comments + [s, joined]))
+            if name not in helpers:
+                plain.append((name, answers[-1]))
             pending = []
+    # What an invariant names stands beside it, and the answers import it.
+    shared, text = [], "\n".join(invariants)
+    for name, item in reversed(plain):
+        if re.search(r"(?<![\w.'-])" + re.escape(name) + r"(?![\w'-])", text):
+            text += item
+            shared.insert(0, name)
+            answers.remove(item)
+            lines = item.split("\n")
+            for i, l in enumerate(lines):
+                if l.startswith(("record ", "data ", "abbrev ")) or re.match(re.escape(name) + r"\s*:", l):
+                    lines[i] = l.replace("abbrev ", "abbrev pub ", 1) if l.startswith("abbrev ") and "pub" not in l.split(":")[0] else ("pub " + l if not l.startswith("abbrev") else l)
+                elif re.match(r"  \w+ :", l):
+                    lines[i] = "  pub " + l.strip()
+            invariants.insert(0, "\n".join(lines))
     to = os.path.join(new, "proofs", rel)
     os.makedirs(to, exist_ok=True)
     base = f"Rattle.{crate}.proofs.{dotted}"
     if answers:
         with open(os.path.join(to, "Answers.antt"), "w", encoding="utf-8") as f:
-            f.write("\n".join(head + keep + [f"use {base}.Goals as goal", ""]) + "\n" + "\n\n".join(answers) + "\n")
+            more = [f"use {base}.Invariants.{{{', '.join(shared)}}}"] if shared else []
+            f.write("\n".join(head + keep + more + [f"use {base}.Goals as goal", ""]) + "\n" + "\n\n".join(answers) + "\n")
     if invariants:
         with open(os.path.join(to, "Invariants.antt"), "w", encoding="utf-8") as f:
             f.write("\n".join(head + keep + [f"use {base}.Given as goal", ""]) + "\n" + "\n\n".join(invariants) + "\n")

@@ -13,6 +13,7 @@ use Rattle.rules.specs.Placement.{opens}
 use Rattle.rules.proofs.Texts.{behind, first_and_rest, none_left}
 use Rattle.tree.specs.Members.{Among}
 use Rattle.placing.specs.Search.{taken_at}
+use Rattle.placing.proofs.are_unused.Invariants.{Underway}
 use Rattle.placing.proofs.are_unused.Goals as goal
 
 module _ {used : ℕ → Bool} {q : ℕ} {left codes : List ℕ} (u : Underway used q left codes) where

@@ -15,6 +15,11 @@ use Rattle.tree.specs.Members.{Among}
 use Rattle.placing.specs.Search.{taken_at}
 use Rattle.placing.proofs.are_unused.Given as goal
 
+-- The codes left open q exactly if all do, and none of them is past the greatest.
+pub record Underway (used : ℕ → Bool) (q : ℕ) (left codes : List ℕ) : Type 0 where
+  pub same : opens used left q ≡ opens used codes q
+  pub small : (c : ℕ) → Among c left → c ≤ GREATEST
+
 abbrev pub invariant-loop-rest : goal.invariant-loop-rest
 invariant-loop-rest l = Underway (taken_at l.check l.last) l.q l.rest l.codes
 
