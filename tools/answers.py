@@ -57,6 +57,39 @@ class Function:
         return None
 
 
+def closed(s, i):
+    """The index behind the term in parentheses at i."""
+    n = 0
+    while i < len(s):
+        n += (s[i] == "(") - (s[i] == ")")
+        i += 1
+        if n == 0:
+            return i
+    return None
+
+
+def branches(s):
+    """A choice of two at a join is an elim of the branch that ran."""
+    at = 0
+    while True:
+        at = s.find("⊎_elim (", at)
+        if at < 0:
+            return s
+        i = at + len("⊎_elim ")
+        j = closed(s, i)
+        m = j and re.match(r"\s+\(", s[j:])
+        k = m and closed(s, j + m.end() - 1)
+        path = k and re.match(r"\s+([\w.'-]*\.if-([\w'-]+)\.branch)", s[k:])
+        one, two = (re.match(r"\(λ (\w+)\. (.*)\)$", x, re.S) if x else None for x in (s[i:j], s[j + m.end() - 1:k] if k else None))
+        if not (path and one and two):
+            at = i
+            continue
+        step = path.group(2)
+        new = f"elim {path.group(1)} [ then-{step} {one.group(1)} ↦ {one.group(2)} | else-{step} {two.group(1)} ↦ {two.group(2)} ]"
+        s = s[:at] + new + s[k + path.end():]
+        at += 5
+
+
 def muts_of(root, callee):
     """The names of a function's parameters by &mut, from its crate's source; the callee is crate::..::name."""
     if not callee:
@@ -196,6 +229,8 @@ def turn(root, old, new, names, rel):
                     kept[2:i + 1] = [muts[n]]
             return "".join("." + k for k in kept)
         s = re.sub(r"(?<![\w.-])(\w+)((?:\.[\w'₀-₉-]+)+)", path, s)
+        s = re.sub(r"let (\w+) = (\w+)(?:\.before)+ in", r"let \1 = \2 in", s)
+        s = branches(s)
         # what a helper gives, and a field of it
         s = re.sub(r"(\(" + "(?:" + "|".join(map(re.escape, helpers)) + r") [\w.]+\))((?:\.[\w'-]+)+)" if helpers else r"$^", lambda m: m.group(1) + fields(m.group(2).split(".")[1:]), s)
         return s
@@ -310,6 +345,8 @@ def turn(root, old, new, names, rel):
     if answers:
         with open(os.path.join(to, "Answers.antt"), "w", encoding="utf-8") as f:
             more = [f"use {base}.Invariants.{{{', '.join(shared)}}}"] if shared else []
+            arms = sorted(set(re.findall(r"(?<![\w.-])(?:then|else)-[\w'-]+(?= \w+ ↦)", "\n".join(answers))))
+            more += [f"use {base}.Goals.{{{', '.join(arms)}}}"] if arms else []
             f.write("\n".join(head + keep + more + [f"use {base}.Goals as goal", ""]) + "\n" + "\n\n".join(answers) + "\n")
     if invariants:
         with open(os.path.join(to, "Invariants.antt"), "w", encoding="utf-8") as f:

@@ -8,6 +8,7 @@ use native.Mathlib.Omega.{arith}
 use lib.ListN.{length, get_or}
 use Rattle.rules.specs.Placement.{greatest_of}
 use Rattle.rules.proofs.Texts.{behind, first_and_rest, none_left}
+use Rattle.placing.proofs.greatest.Goals.{else-c-rest, then-c-rest}
 use Rattle.placing.proofs.greatest.Goals as goal
 
 greatest_first : (codes : List ℕ) → 0 < length codes → greatest_of codes ≡ max (get_or codes 0 0) (greatest_of (behind codes))
@@ -22,7 +23,7 @@ pub loop-rest-preserved : goal.loop-rest-preserved
 loop-rest-preserved c =
     let rest : List ℕ = c.loop-rest.rest.now in
     let e = greatest_first rest (omega arith) in
-    ⊎_elim (λ w. omega arith) (λ w. omega arith) c.if-c-rest.branch
+    elim c.if-c-rest.branch [ then-c-rest w ↦ omega arith | else-c-rest w ↦ omega arith ]
 
 pub returns : goal.returns
 returns c = omega (arith, greatest_none c.loop-rest.rest.now (omega arith))

@@ -8,6 +8,7 @@ use native.Mathlib.Omega.{arith}
 use lib.ListN.{length, get_or}
 use Rattle.rules.specs.Placement.{least_of}
 use Rattle.rules.proofs.Texts.{behind, first_and_rest, none_left}
+use Rattle.placing.proofs.least.Goals.{else-rest-c, then-rest-c}
 use Rattle.placing.proofs.least.Goals as goal
 
 least_min : (c d : ℕ) (cs : List ℕ) → least_of (min c d ∷ cs) ≡ least_of (c ∷ (d ∷ cs))
@@ -30,7 +31,7 @@ loop-rest-init c = ap least_of (sym (first_and_rest _ (omega arith)))
 pub loop-rest-preserved : goal.loop-rest-preserved
 loop-rest-preserved c =
     let l = c.loop-rest in
-    least_first l.c l.rest.now (omega arith) (⊎_elim (λ w. omega arith) (λ w. omega arith) c.if-rest-c.branch) ∙ l.invariant
+    least_first l.c l.rest.now (omega arith) (elim c.if-rest-c.branch [ then-rest-c w ↦ omega arith | else-rest-c w ↦ omega arith ]) ∙ l.invariant
 
 pub returns : goal.returns
 returns c =

@@ -19,7 +19,7 @@ least-low-requires c = c.requires.wanted.some
 
 pub overflow_sub-span : goal.overflow_sub-span
 overflow_sub-span c =
-    let s = c.before.before.before in
+    let s = c in
     omega (arith, least_greatest s.args.codes.now s.requires.wanted.some)
 
 pub last_stored-last-requires : goal.last_stored-last-requires
@@ -27,14 +27,14 @@ last_stored-last-requires c = some_stored c.requires.chain
 
 pub pass_over-u-requires : goal.pass_over-u-requires
 pass_over-u-requires c =
-    let s = c.before.before.before.before.before in
+    let s = c in
     let p = s.requires in
     rw c.minus_at.ensures.is (passes p.chain c.last_stored-last.ensures p.small
     (omega (arith, greatest_within s.args.codes.now GREATEST p.wanted.small)) (omega arith) p.chain.header)
 
 pub loop-u-init : goal.loop-u-init
 loop-u-init c =
-    let s = c.before.before.before.before.before.before in
+    let s = c in
     let some = s.requires.wanted.some in
     λ m ch. c.pass_over-u.ensures.arrives m _ s.args.codes.now ch c.last_stored-last.ensures some
     (omega (arith, least_greatest s.args.codes.now some)) (rw c.minus_at.ensures.is (starts _ ch))
@@ -56,7 +56,7 @@ known_minus-requires c =
 
 pub pass_over-u-requires-in-loop-u : goal.pass_over-u-requires-in-loop-u
 pass_over-u-requires-in-loop-u c =
-    let s = c.before.before.before.before.before.before.before.before.before.before in
+    let s = c in
     let p = s.requires in
     let l = c.loop-u in
     rw c.known_minus.ensures.is (passes p.chain c.last_stored-last.ensures p.small
@@ -71,7 +71,7 @@ loop-u-smaller c =
 
 pub loop-u-preserved : goal.loop-u-preserved
 loop-u-preserved c =
-    let s = c.before.before.before.before.before.before.before.before.before.before.before in
+    let s = c in
     let some = s.requires.wanted.some in
     let l = c.last_stored-last.ensures in
     λ m ch. c.pass_over-u-in-loop-u.ensures.arrives m _ s.args.codes.now ch l some
