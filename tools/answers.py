@@ -72,10 +72,10 @@ def branches(s):
     """A choice of two at a join is an elim of the branch that ran."""
     at = 0
     while True:
-        at = s.find("⊎_elim (", at)
-        if at < 0:
+        found = re.compile(r"⊎_elim\s+(?=\()").search(s, at)
+        if not found:
             return s
-        i = at + len("⊎_elim ")
+        at, i = found.start(), found.end()
         j = closed(s, i)
         m = j and re.match(r"\s+\(", s[j:])
         k = m and closed(s, j + m.end() - 1)

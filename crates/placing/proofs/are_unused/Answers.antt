@@ -6,13 +6,10 @@ use mathlib.Core.Bool.{Bool, true, false}
 use mathlib.Core.List.{List}
 use Prim.Native.Nat.{ℕ, ◌+◌, ◌≤◌, ◌<◌}
 use native.Mathlib.Omega.{arith}
-use borrow.Author.Rules.{rules}
 use lib.ListN.{length, get_or}
 use Rattle.rules.specs.WhatTheIndexDoes.{GREATEST}
 use Rattle.rules.specs.Placement.{opens}
 use Rattle.rules.proofs.Texts.{behind, first_and_rest, none_left}
-use Rattle.tree.specs.Members.{Among}
-use Rattle.placing.specs.Search.{taken_at}
 use Rattle.placing.proofs.are_unused.Invariants.{Underway}
 use Rattle.placing.proofs.are_unused.Goals as goal
 

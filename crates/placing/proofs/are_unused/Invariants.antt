@@ -1,16 +1,12 @@
 -- `are_unused` says whether every q + code is unused. The loop's invariant: the rest opens exactly if all do. The measure is the length
 -- of the rest. Assumes nothing.
-use mathlib.Core.Path.{◌≡◌, refl, sym, ◌∙◌}
-use mathlib.Core.Logic.{inl, inr}
-use mathlib.Core.Bool.{Bool, true, false}
+use mathlib.Core.Path.{◌≡◌}
+use mathlib.Core.Bool.{Bool}
 use mathlib.Core.List.{List}
-use Prim.Native.Nat.{ℕ, ◌+◌, ◌≤◌, ◌<◌}
-use native.Mathlib.Omega.{arith}
-use borrow.Author.Rules.{rules}
-use lib.ListN.{length, get_or}
+use Prim.Native.Nat.{ℕ, ◌≤◌}
+use lib.ListN.{length}
 use Rattle.rules.specs.WhatTheIndexDoes.{GREATEST}
 use Rattle.rules.specs.Placement.{opens}
-use Rattle.rules.proofs.Texts.{behind, first_and_rest, none_left}
 use Rattle.tree.specs.Members.{Among}
 use Rattle.placing.specs.Search.{taken_at}
 use Rattle.placing.proofs.are_unused.Given as goal

@@ -1,13 +1,9 @@
 -- `greatest` gives the greatest code. The loop's invariant: of the code at hand and the greatest of the rest, the greater is the
 -- greatest of all. The measure is the length of the rest. Assumes nothing.
-use mathlib.Core.Path.{◌≡◌, ap}
-use mathlib.Core.Logic.{⊎_elim}
-use mathlib.Core.List.{List}
-use Prim.Native.Nat.{ℕ, ◌≤◌, ◌<◌, max}
-use native.Mathlib.Omega.{arith}
-use lib.ListN.{length, get_or}
+use mathlib.Core.Path.{◌≡◌}
+use Prim.Native.Nat.{max}
+use lib.ListN.{length}
 use Rattle.rules.specs.Placement.{greatest_of}
-use Rattle.rules.proofs.Texts.{behind, first_and_rest, none_left}
 use Rattle.placing.proofs.greatest.Given as goal
 
 abbrev pub invariant-loop-rest : goal.invariant-loop-rest

@@ -1,7 +1,6 @@
 -- `is_taken` looks at check up to the last cell. Assumes nothing.
 use mathlib.Core.Path.{sym, ◌∙◌}
 use native.Mathlib.Omega.{arith}
-use borrow.Author.Rules.{rules}
 use Rattle.placing.proofs.TakenCells.{taken_within, taken_past}
 use Rattle.placing.proofs.is_taken.Goals as goal
 

@@ -1,7 +1,6 @@
 -- `least` gives the least code. The loop's invariant: the least of the code at hand and the rest is the least of all. The measure
 -- is the length of the rest. Assumes nothing.
 use mathlib.Core.Path.{◌≡◌, refl, sym, ap, ◌∙◌}
-use mathlib.Core.Logic.{⊎_elim}
 use mathlib.Core.List.{List, [], ◌∷◌}
 use Prim.Native.Nat.{ℕ, ◌≤◌, ◌<◌, min}
 use native.Mathlib.Omega.{arith}

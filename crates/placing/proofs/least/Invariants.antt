@@ -1,13 +1,9 @@
 -- `least` gives the least code. The loop's invariant: the least of the code at hand and the rest is the least of all. The measure
 -- is the length of the rest. Assumes nothing.
-use mathlib.Core.Path.{◌≡◌, refl, sym, ap, ◌∙◌}
-use mathlib.Core.Logic.{⊎_elim}
-use mathlib.Core.List.{List, [], ◌∷◌}
-use Prim.Native.Nat.{ℕ, ◌≤◌, ◌<◌, min}
-use native.Mathlib.Omega.{arith}
-use lib.ListN.{length, get_or}
+use mathlib.Core.Path.{◌≡◌}
+use mathlib.Core.List.{◌∷◌}
+use lib.ListN.{length}
 use Rattle.rules.specs.Placement.{least_of}
-use Rattle.rules.proofs.Texts.{behind, first_and_rest, none_left}
 use Rattle.placing.proofs.least.Given as goal
 
 abbrev pub invariant-loop-rest : goal.invariant-loop-rest

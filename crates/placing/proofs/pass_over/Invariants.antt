@@ -1,10 +1,7 @@
 -- `pass_over` goes along the chain. The loop's invariant: bases may be passed over from u, and have been up to it. The measure is what
 -- is left to the last cell. Assumes nothing.
 use Prim.Native.Nat.{suc, ◌-◌}
-use native.Mathlib.Omega.{arith}
-use Rattle.rules.proofs.Choices.{was_yes}
 use Rattle.placing.specs.Search.{Passes, Passed}
-use Rattle.placing.proofs.GreatestFirst.{linked, passes_on, passed_on}
 use Rattle.placing.proofs.pass_over.Given as goal
 
 abbrev pub invariant-loop-u : goal.invariant-loop-u

@@ -1,5 +1,4 @@
 -- `place` seeks at the size that base[0] states. Assumes nothing.
-use borrow.Author.Rules.{rules}
 use Rattle.placing.proofs.place.Goals as goal
 
 pub seek-requires : goal.seek-requires

@@ -1,17 +1,13 @@
 -- `seek` walks the chain. The loop's invariant, whichever cells the chain names: the search has arrived at u. The measure is what is
 -- left to the chain's end. Assumes nothing.
 use mathlib.Core.Path.{sym, ap, ◌∙◌}
-use mathlib.Core.Logic.{⊎_elim}
-use mathlib.Core.Bool.{Bool}
-use Prim.Native.Nat.{ℕ, suc, ◌-◌}
 use native.Mathlib.Omega.{arith}
-use borrow.Author.Rules.{rules}
 use Rattle.rules.specs.WhatTheIndexDoes.{GREATEST}
 use Rattle.rules.specs.Placement.{opens}
 use Rattle.tree.proofs.Placement.{greatest_within}
-use Rattle.placing.specs.Search.{Chain, Arrived}
 use Rattle.placing.proofs.Seeking.{starts, goes_on, found, ended}
 use Rattle.placing.proofs.GreatestFirst.{least_greatest, some_stored, taken_same, opens_same, past_size, passes}
+use Rattle.placing.proofs.seek.Goals.{then-low-u+else-opens, else-low-u}
 use Rattle.placing.proofs.seek.Goals as goal
 
 pub least-low-requires : goal.least-low-requires
@@ -76,10 +72,7 @@ loop-u-preserved c =
     let l = c.last_stored-last.ensures in
     λ m ch. c.pass_over-u-in-loop-u.ensures.arrives m _ s.args.codes.now ch l some
     (omega (arith, least_greatest s.args.codes.now some)) (rw c.known_minus.ensures.is
-    (goes_on _ ch (c.loop-u.invariant m ch) (omega arith) (λ q h e. rw (← taken_same l) (⊎_elim
-    (λ w. ap (opens _ _) (omega arith) ∙ sym w.1.ensures ∙ w.2.left)
-    (λ w. absurd (omega arith))
-    c.if-low-u.branch))))
+    (goes_on _ ch (c.loop-u.invariant m ch) (omega arith) (λ q h e. rw (← taken_same l) (elim c.if-low-u.branch [ then-low-u+else-opens w ↦ ap (opens _ _) (omega arith) ∙ sym w.opens.ensures ∙ w.if-opens.false | else-low-u w ↦ absurd (omega arith) ]))))
 
 pub returns-then-low-size : goal.returns-then-low-size
 returns-then-low-size c = λ m ch.
