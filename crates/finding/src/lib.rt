@@ -11,7 +11,7 @@ ghost use Rattle.finding.specs.Reaching.{IsCell, step_at, Walked, LooksUp, row_o
 use rules::{Alphabet, Answer, Cell, Row};
 
 // Where a walk stopped, and how many characters were found.
-#[derive(Drop)]
+#[derive(Clone, Copy)]
 pub struct Reached {
     pub cell: Cell,
     pub met: usize,
