@@ -268,7 +268,7 @@ def turn(root, old, new, names, rel):
             left.append("\n".join(b))
             continue
         name = m.group(1)
-        if name.endswith("_spec") or name.endswith("-spec") or name in ("claims", "at", "below") or re.match(r"\w+_(at|below)$", name) and "In " in b[0] or "Claims" in b[0]:
+        if name.endswith("_spec") or name.endswith("-spec") or name in ("claims", "at", "below") or re.search(r"\.Claims$|: ℕ → In \d|: Measures ", b[0]):
             continue
         # the lines of the signature end where the first clause begins
         at = next((i for i in range(1, len(b)) if re.match(re.escape(name) + r"\b.* =($| )", b[i]) or re.match(re.escape(name) + r" =", b[i])), len(b))

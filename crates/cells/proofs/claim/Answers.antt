@@ -1,0 +1,45 @@
+-- `claim` widens the table to the cell, and has the last free cell below it name what it named. Assumes nothing.
+use mathlib.Core.Path.{ap}
+use mathlib.Core.Bool.{not}
+use mathlib.Core.List.{List}
+use Prim.Native.Nat.{ℕ}
+use native.Mathlib.Omega.{arith}
+use lib.IntN.{ℤ}
+use Rattle.rules.specs.Table.{Table}
+use Rattle.cells.specs.Edits.{Widens, Claims}
+use Rattle.cells.proofs.Shown.{shown_small}
+use Rattle.cells.proofs.Relinking.{link_small, shown_walks, shown_before, take_out}
+use Rattle.cells.proofs.claim.Goals as goal
+
+widens : {base check : List ℤ} {u s : ℕ} {t : Table} → Claims base check u s t → Widens base check u t
+widens a = record { shown = a.shown; fits = a.fits }
+
+pub widen-requires : goal.widen-requires
+widen-requires c = let (t, a) = c.requires in (t, widens a)
+
+pub prior-p-requires : goal.prior-p-requires
+prior-p-requires c =
+    let w = c in
+    let (t, a) = w.requires in
+    shown_walks (w.widen.ensures t (widens a)) _ (omega arith) a.some
+
+pub put_minus-requires : goal.put_minus-requires
+put_minus-requires c =
+    let w = c in
+    let (t, a) = w.requires in
+    omega (arith, link_small (w.widen.ensures t (widens a)) _ (ap not a.unused) (omega arith), c.minus_at-n.ensures.is)
+
+pub put_plus-requires : goal.put_plus-requires
+put_plus-requires c =
+    let (t, a) = c.requires in
+    omega (arith, a.inside, shown_small a.shown)
+
+pub returns : goal.returns
+returns c = λ t a.
+    let m = c in
+    let n = m in
+    let p = n in
+    let wide = p.widen.ensures t (widens a) in
+    let b = shown_before wide _ (omega arith) p.prior-p.ensures in
+    rw (c.put_plus.ensures, m.put_minus.ensures, n.minus_at-n.ensures.is)
+    (take_out wide b (omega arith) a.some a.unused _ a.parent)

@@ -1,0 +1,9 @@
+-- `put_row` stores minus the row, which is in the range of rows. Assumes nothing.
+use native.Mathlib.Omega.{arith}
+use Rattle.rules.specs.WhatTheIndexDoes.{is_row}
+use Rattle.rules.proofs.Ranges.{within_is}
+use Rattle.cells.proofs.put_row.Goals as goal
+
+pub put_minus-requires : goal.put_minus-requires
+unfolding is_row
+put_minus-requires c = let s = c in omega (arith, within_is 1 1000000 s.args.row.0 s.requires)

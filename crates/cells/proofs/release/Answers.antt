@@ -1,0 +1,42 @@
+-- `release` links the cell between the last free one below it and what that one named. Assumes nothing.
+use mathlib.Core.List.{List}
+use Prim.Native.Nat.{ℕ, ◌≤◌}
+use native.Mathlib.Omega.{arith}
+use lib.IntN.{ℤ}
+use Rattle.rules.specs.Table.{Table}
+use Rattle.placing.specs.Search.{Before, Precedes}
+use Rattle.cells.specs.Edits.{Releases}
+use Rattle.cells.proofs.NextFree.{unused}
+use Rattle.cells.proofs.Shown.{shown_small}
+use Rattle.cells.proofs.Relinking.{link_small, shown_walks, shown_before, put_in}
+use Rattle.cells.proofs.release.Goals as goal
+
+module _ {base check : List ℤ} {u : ℕ} {t : Table} (a : Releases base check u t) where
+  inside : u ≤ t.size
+  inside = a.shown.table.inside u a.parent
+
+  before : {p : ℕ} → Precedes check u p → Before (unused t) check u p
+  before = shown_before a.shown u inside
+
+pub prior-p-requires : goal.prior-p-requires
+prior-p-requires c = let (t, a) = c.requires in shown_walks a.shown _ (inside a) (omega (arith, a.far))
+
+pub put_minus-requires : goal.put_minus-requires
+put_minus-requires c =
+    let (t, a) = c.requires in
+    omega (arith, inside a, shown_small a.shown)
+
+pub put_minus-requires-2 : goal.put_minus-requires-2
+put_minus-requires-2 c =
+    let k = c in
+    let (t, a) = k.requires in
+    let b = before a k.prior-p.ensures in
+    omega (arith, link_small a.shown _ b.on (omega (arith, inside a, b.below)), k.minus_at-n.ensures.is)
+
+pub returns : goal.returns
+returns c = λ t a.
+    let k = c in
+    let m = k in
+    let n = m in
+    rw (c.put_plus.ensures, k.put_minus-2.ensures, m.put_minus.ensures, n.minus_at-n.ensures.is)
+    (put_in a.shown (before a n.prior-p.ensures) (inside a) a.far a.parent)

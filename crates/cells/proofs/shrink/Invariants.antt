@@ -1,0 +1,22 @@
+-- `shrink` writes 0 into each cell that it passes. The loop's invariant: check is as it would be if the size were i. The measure
+-- is what is left to n. Assumes nothing.
+use mathlib.Core.Path.{◌≡◌}
+use mathlib.Core.List.{List}
+use Prim.Native.Nat.{ℕ, ◌-◌, ◌≤◌, ◌<◌}
+use lib.ListN.{length}
+use lib.IntN.{ℤ}
+use Rattle.cells.specs.Edits.{EveryTable, sized, Shrinks}
+use Rattle.cells.proofs.Stores.{Holds, checks}
+use Rattle.cells.proofs.shrink.Given as goal
+
+pub record Shrinking (base check₀ : List ℤ) (n : ℕ) (check : List ℤ) (i : ℕ) : Type 0 where
+  pub same : length check ≡ length check₀
+  pub least : n ≤ i
+  pub fits : (i < length check₀) × (n < 65536)
+  pub held : EveryTable (Shrinks base check₀ n) (λ t. Holds check (checks (sized t i)))
+
+abbrev pub invariant-loop-i : goal.invariant-loop-i
+invariant-loop-i l = Shrinking l.base l.initial.check l.n l.check l.i
+
+abbrev pub decreases-loop-i : goal.decreases-loop-i
+decreases-loop-i l = l.i - l.n
