@@ -175,7 +175,7 @@ def turn(root, old, new, names, rel):
             t = TYPE.search(m.group(2).split(" = ")[0] if False else m.group(2))
             if t and not t.group(2).startswith("Need-") and re.match(r"\(?(?:\w+ : )?" + re.escape(t.group(1)), m.group(2).lstrip("(")):
                 helpers[m.group(1)] = (alias[t.group(1)], t.group(2))
-    answers, invariants, left, plain = [], [], [], []
+    answers, invariants, left, plain, shows = [], [], [], [], set()
 
     def body_of(fn, place, lines, var="c"):
         s = "\n".join(lines)
@@ -239,7 +239,8 @@ def turn(root, old, new, names, rel):
         def one(m):
             f = alias[m.group(1)]
             p = norm(m.group(2))
-            return "goal." + f.show.get(p, m.group(2) + "-UNKNOWN")
+            shows.add(f.show.get(p, m.group(2) + "-UNKNOWN"))
+            return f.show.get(p, m.group(2) + "-UNKNOWN")
         return TYPE.sub(one, s)
 
     pending = []
@@ -250,7 +251,15 @@ def turn(root, old, new, names, rel):
                 pending += b
             continue
         if any(l.startswith("module _") for l in b):
-            answers.append("\n".join(pending + b).rstrip())
+            item = "\n".join(b).rstrip()
+            t = TYPE.search(next(l for l in b if l.startswith("module _")))
+            if t:
+                fn = alias[t.group(1)]
+                v = re.search(r"\((\w+) : ", item)
+                item = types(body_of(fn, t.group(2), item.split("\n"), v.group(1)), fn)
+            answers.append("\n".join(pending + [item]))
+            if not t:
+                plain.append(([m.group(1) for m in (re.match(r"\s+(?:abbrev |pub |unfoldable )*(" + TOKEN + r")\s*:", l) for l in b) if m], answers[-1]))
             pending = []
             continue
         comments = [l for l in b if l.startswith("--")]
@@ -259,7 +268,7 @@ def turn(root, old, new, names, rel):
             continue
         r = re.match(r"(?:pub )?(?:record|data) (" + TOKEN + ")", b[0])
         if r:
-            plain.append((r.group(1), "\n".join(pending + comments + b)))
+            plain.append(([r.group(1)], "\n".join(pending + comments + b)))
             answers.append(plain[-1][1])
             pending = []
             continue
@@ -286,8 +295,8 @@ def turn(root, old, new, names, rel):
                 continue
             goal, place = to
             unf = [l for l in sig if l.startswith("unfolding")]
-            joined = re.sub(r"^" + re.escape(name) + r" (\w+)( κs)? =", lambda k: f"{goal} {k.group(1)} =", joined)
-            v = re.match(re.escape(goal) + r" (\w+) =", joined)
+            joined = re.sub(r"^" + re.escape(name) + r"(?= )", goal, joined, flags=re.M).replace(" κs =", " =", 1)
+            v = re.match(re.escape(goal) + r" (\w+)\b", joined)
             joined = body_of(fn, place, joined.split("\n"), v.group(1) if v else "c")
             answers.append("\n".join(pending + comments + [f"pub {goal} : goal.{goal}"] + unf + [joined]))
             pending = []
@@ -323,29 +332,34 @@ def turn(root, old, new, names, rel):
                 s = types(s, fn)
             answers.append("\n".join(pending + comments + [s, joined]))
             if name not in helpers:
-                plain.append((name, answers[-1]))
+                plain.append(([name], answers[-1]))
             pending = []
     # What an invariant names stands beside it, and the answers import it.
     shared, text = [], "\n".join(invariants)
-    for name, item in reversed(plain):
-        if re.search(r"(?<![\w.'-])" + re.escape(name) + r"(?![\w'-])", text):
+    for named, item in reversed(plain):
+        if any(re.search(r"(?<![\w.'-])" + re.escape(n) + r"(?![\w'-])", text) for n in named):
             text += item
-            shared.insert(0, name)
+            shared = named + shared
             answers.remove(item)
-            lines = item.split("\n")
+            lines, record = item.split("\n"), False
             for i, l in enumerate(lines):
-                if l.startswith(("record ", "data ", "abbrev ")) or re.match(re.escape(name) + r"\s*:", l):
-                    lines[i] = l.replace("abbrev ", "abbrev pub ", 1) if l.startswith("abbrev ") and "pub" not in l.split(":")[0] else ("pub " + l if not l.startswith("abbrev") else l)
-                elif re.match(r"  \w+ :", l):
-                    lines[i] = "  pub " + l.strip()
+                if not l.startswith(" "):
+                    record = bool(re.match(r"(?:pub )?(?:record|data) ", l))
+                m = re.match(r"(\s*)(abbrev |unfoldable |)(" + TOKEN + r")(\s*:.*)$", l)
+                if record and l.startswith(("record", "data")):
+                    lines[i] = "pub " + l
+                elif m and (m.group(3) in named or record and l.startswith("  ")):
+                    lines[i] = m.group(1) + m.group(2) + "pub " + m.group(3) + m.group(4)
             invariants.insert(0, "\n".join(lines))
+    body = "\n".join(answers)
+    shared = [n for n in shared if re.search(r"(?<![\w.'-])" + re.escape(n) + r"(?![\w'-])", body)]
     to = os.path.join(new, "proofs", rel)
     os.makedirs(to, exist_ok=True)
     base = f"Rattle.{crate}.proofs.{dotted}"
     if answers:
         with open(os.path.join(to, "Answers.antt"), "w", encoding="utf-8") as f:
             more = [f"use {base}.Invariants.{{{', '.join(shared)}}}"] if shared else []
-            arms = sorted(set(re.findall(r"(?<![\w.-])(?:then|else)-[\w'-]+(?= \w+ ↦)", "\n".join(answers))))
+            arms = sorted(shows | set(re.findall(r"(?<![\w.-])(?:then|else)-[\w'-]+(?= \w+ ↦)", "\n".join(answers))))
             more += [f"use {base}.Goals.{{{', '.join(arms)}}}"] if arms else []
             f.write("\n".join(head + keep + more + [f"use {base}.Goals as goal", ""]) + "\n" + "\n\n".join(answers) + "\n")
     if invariants:
