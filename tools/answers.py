@@ -91,9 +91,9 @@ def branches(s):
 
 
 def muts_of(root, callee):
-    """The names of a function's parameters by &mut, from its crate's source; the callee is crate::..::name."""
+    """The names of a function's parameters, and of those by &mut, from its crate's source; the callee is crate::..::name."""
     if not callee:
-        return []
+        return [], []
     crate, name = callee.split("::")[0], callee.split("::")[-1]
     src = os.path.join(root, crate, "src")
     for folder, _, files in os.walk(src):
@@ -101,8 +101,8 @@ def muts_of(root, callee):
             text = open(os.path.join(folder, f), encoding="utf-8").read()
             m = re.search(r"\bfn " + re.escape(name) + r"(?:<[^>]*>)?\(([^{]*?)\)(?: ->|\n|\s*(?:requires|ensures|\{))", text, re.S)
             if m:
-                return re.findall(r"(\w+): &(?:'\w+ )?mut ", m.group(1))
-    return []
+                return re.findall(r"(\w+): ", m.group(1)), re.findall(r"(\w+): &(?:'\w+ )?mut ", m.group(1))
+    return [], []
 
 
 def blocks(text):
@@ -170,11 +170,18 @@ def turn(root, old, new, names, rel):
     TYPE = re.compile(r"(" + "|".join(map(re.escape, alias)) + r")\.((?:After|At|In|Then|Else|Start|Need)[^\s()]*)((?: \([^()]*\)| [\w.-]*(?:Post|invariant_loop\w*|decreases_loop\w*|claims|Pre))*)")
     helpers = {}
     for b in blocks(text):
-        m = re.match(r"(?:abbrev |pub )*(" + TOKEN + r")\s*:\s*(.*)", " ".join(x.strip() for x in b))
+        m = re.match(r"(?:abbrev |pub )*(" + TOKEN + r")\s*:\s*(.*)", " ".join(x.strip() for x in b if not x.strip().startswith("--")))
         if m:
             t = TYPE.search(m.group(2).split(" = ")[0] if False else m.group(2))
             if t and not t.group(2).startswith("Need-") and re.match(r"\(?(?:\w+ : )?" + re.escape(t.group(1)), m.group(2).lstrip("(")):
                 helpers[m.group(1)] = (alias[t.group(1)], t.group(2))
+        first = next((l for l in b if l.startswith("module _")), None)
+        t = first and TYPE.search(first)
+        if t:
+            for l in b:
+                m = re.match(r"\s+(?:abbrev |pub |unfoldable )*(" + TOKEN + r")\s*:", l)
+                if m:
+                    helpers[m.group(1)] = (alias[t.group(1)], t.group(2))
     answers, invariants, left, plain, shows = [], [], [], [], set()
 
     def body_of(fn, place, lines, var="c"):
@@ -220,7 +227,7 @@ def turn(root, old, new, names, rel):
             if len(kept) > 1 and kept[1] == "inv":
                 kept[1] = "invariant"
             if len(kept) > 2 and kept[1] in ("new", "auto") and callee:
-                muts = muts_of(root, callee)
+                muts = muts_of(root, callee)[kept[1] == "auto"]
                 i, n = 2, 0
                 while i < len(kept) and kept[i] == "1":
                     n += 1
