@@ -1,0 +1,24 @@
+-- `steps` climbs from parent to parent. The loop's invariant: the steps made, and those from the cell reached, are all of them. The
+-- measure is what is left of the most steps. Assumes nothing.
+use Prim.Native.Nat.{◌+◌, ◌-◌}
+use native.Mathlib.Omega.{arith}
+use Rattle.listing.specs.Visiting.{DEEPEST}
+use Rattle.listing.proofs.Climbing.{steps_none, steps_home, steps_on}
+use Rattle.listing.proofs.steps.Goals as goal
+
+pub loop-n-init : goal.loop-n-init
+loop-n-init c = (omega arith, omega arith)
+
+pub returns-then-at-eq1-clause-value : goal.returns-then-at-eq1-clause-value
+returns-then-at-eq1-clause-value c =
+    omega (arith, c.loop-n.invariant.1, steps_home c.args.check.now (DEEPEST - c.loop-n.n) c.if-at-eq1.true)
+
+pub loop-n-preserved : goal.loop-n-preserved
+loop-n-preserved c =
+    let n = c.loop-n.n in
+    let on = steps_on c.args.check.now (DEEPEST - n) (DEEPEST - (n + 1)) (omega arith) c.if-at-eq1.false c.plus_at-at.ensures.is in
+    (omega arith, omega (arith, c.loop-n.invariant.1, on))
+
+pub returns-clause-value : goal.returns-clause-value
+returns-clause-value c =
+    omega (arith, c.loop-n.invariant.1, steps_none c.args.check.now (DEEPEST - c.loop-n.n) c.loop-n.at (omega (arith, c.loop-n-test.false)))
