@@ -168,13 +168,16 @@ def turn(root, old, new, names, rel):
     gone = re.compile(r"\.(Statement|Tie|Reads|Kinds|Lts\S*)(\.\{[^}]*\})?( as \S+)?$|PlainCycle|Fn\.Kinds|\.proofs\.\+\S+\.\{statement\}")
     keep = [u for u in uses if not gone.search(u)]
     TYPE = re.compile(r"(" + "|".join(map(re.escape, alias)) + r")\.((?:After|At|In|Then|Else|Start|Need)[^\s()]*)((?: \([^()]*\)| [\w.-]*(?:Post|invariant_loop\w*|decreases_loop\w*|claims|Pre))*)")
-    helpers = {}
+    helpers, results, cycle = {}, {}, os.path.basename(rel).startswith("+")
     for b in blocks(text):
         m = re.match(r"(?:abbrev |pub )*(" + TOKEN + r")\s*:\s*(.*)", " ".join(x.strip() for x in b if not x.strip().startswith("--")))
         if m:
             t = TYPE.search(m.group(2).split(" = ")[0] if False else m.group(2))
             if t and not t.group(2).startswith("Need-") and re.match(r"\(?(?:\w+ : )?" + re.escape(t.group(1)), m.group(2).lstrip("(")):
                 helpers[m.group(1)] = (alias[t.group(1)], t.group(2))
+                r = TYPE.match(m.group(2)) and re.search(r"→ (" + TYPE.pattern + r") " + re.escape(m.group(1)) + r"\b", m.group(2) + " ")
+                if r:
+                    results[m.group(1)] = TYPE.match(r.group(1)).group(2)
         first = next((l for l in b if l.startswith("module _")), None)
         t = first and TYPE.search(first)
         if t:
@@ -192,8 +195,10 @@ def turn(root, old, new, names, rel):
             if m.group(2) in roots:
                 roots[m.group(1)] = roots[m.group(2)]
         for m in re.finditer(r"let (\w+) = \(?(" + "|".join(map(re.escape, helpers)) + r") (\w+)(?:\.before)*\)? in" if helpers else r"$^", s):
-            if m.group(3) in roots:
-                roots[m.group(1)] = roots[m.group(3)]
+            if m.group(3) in roots and m.group(2) in results:
+                roots[m.group(1)] = results[m.group(2)]
+        for m in re.finditer(r"let (\w+) = (" + "|".join(map(re.escape, results)) + r") \(" if results else r"$^", s):
+            roots[m.group(1)] = results[m.group(2)]
 
         def arg(m):
             h, v = m.group(1), m.group(2)
@@ -224,6 +229,8 @@ def turn(root, old, new, names, rel):
                 kept[0], callee = step
             elif kept[0] == "pre":
                 kept[0] = "requires"
+            if step and len(kept) > 1 and kept[1] in ("left", "taken"):
+                kept[1] = {"left": "false", "taken": "true"}[kept[1]]
             if len(kept) > 1 and kept[1] == "inv":
                 kept[1] = "invariant"
             if len(kept) > 2 and kept[1] in ("new", "auto") and callee:
@@ -239,7 +246,7 @@ def turn(root, old, new, names, rel):
         s = re.sub(r"let (\w+) = (\w+)(?:\.before)+ in", r"let \1 = \2 in", s)
         s = branches(s)
         # what a helper gives, and a field of it
-        s = re.sub(r"(\(" + "(?:" + "|".join(map(re.escape, helpers)) + r") [\w.]+\))((?:\.[\w'-]+)+)" if helpers else r"$^", lambda m: m.group(1) + fields(m.group(2).split(".")[1:]), s)
+        s = re.sub(r"(\(" + "(?:" + "|".join(map(re.escape, helpers)) + r") (?:[\w.]+|\([^()]*\))\))((?:\.[\w'-]+)+)" if helpers else r"$^", lambda m: m.group(1) + fields(m.group(2).split(".")[1:]), s)
         return s
 
     def types(s, fn):
@@ -247,7 +254,7 @@ def turn(root, old, new, names, rel):
             f = alias[m.group(1)]
             p = norm(m.group(2))
             shows.add(f.show.get(p, m.group(2) + "-UNKNOWN"))
-            return f.show.get(p, m.group(2) + "-UNKNOWN")
+            return f.show.get(p, m.group(2) + "-UNKNOWN") + (" n" if cycle else "")
         return TYPE.sub(one, s)
 
     pending = []
@@ -303,7 +310,9 @@ def turn(root, old, new, names, rel):
             goal, place = to
             unf = [l for l in sig if l.startswith("unfolding")]
             joined = re.sub(r"^" + re.escape(name) + r"(?= )", goal, joined, flags=re.M).replace(" κs =", " =", 1)
-            v = re.match(re.escape(goal) + r" (\w+)\b", joined)
+            if cycle:
+                joined = re.sub(r"^" + re.escape(goal) + r"(?= )", goal + " n", joined, flags=re.M)
+            v = re.match(re.escape(goal) + (r" n" if cycle else "") + r" (\w+)\b", joined)
             joined = body_of(fn, place, joined.split("\n"), v.group(1) if v else "c")
             answers.append("\n".join(pending + comments + [f"pub {goal} : goal.{goal}"] + unf + [joined]))
             pending = []
@@ -337,6 +346,8 @@ def turn(root, old, new, names, rel):
                     joined = body_of(fn, place, joined.split("\n"), v.group(1) if v else "c")
                     s = body_of(fn, place, s.split("\n"), v.group(1) if v else "c")
                 s = types(s, fn)
+            if name in helpers and cycle:
+                s = re.sub(r"^((?:abbrev |pub )*" + re.escape(name) + r" : )", r"\1{n : ℕ} → ", s)
             answers.append("\n".join(pending + comments + [s, joined]))
             if name not in helpers:
                 plain.append(([name], answers[-1]))
