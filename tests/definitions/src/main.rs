@@ -250,17 +250,14 @@ fn edges(random: &mut Random, cases: &mut Cases) {
 }
 
 const TOP: &str = "-- Written by tests/definitions: what the second program gives.
-use mathlib.Core.Path.{_≡_, refl}
-use mathlib.Core.List.{List, [], _∷_}
-use Prim.Native.Nat.{ℕ}
-use lib.IntN.{ℤ}
-use Rattle·numbers.specs.Stored.{positive, negative}
-use Rattle·rules.specs.Answers.{number, value}
-use Rattle·rules.specs.Commands.{insert, delete, find, compact}
-use Rattle·rules.specs.Rendering.{chained}
-use Rattle·rules.specs.PlainMethod.{plain}
-use Rattle·rules.specs.Calls.{Ran}
-use Rattle·rules.specs.Figures.{fresh, command, audit, list, run, given}
+use Rattle.std.specs.Prelude.{◌≡◌, refl, List, [], ◌∷◌, ℕ, ℤ}
+use Rattle.numbers.specs.Stored.{positive, negative}
+use Rattle.rules.specs.Answers.{number, value}
+use Rattle.rules.specs.Commands.{insert, delete, find, compact}
+use Rattle.rules.specs.Rendering.{chained}
+use Rattle.rules.specs.PlainMethod.{plain}
+use Rattle.rules.specs.Calls.{Ran}
+use Rattle.rules.specs.Figures.{fresh, command, audit, list, run, given}
 
 record Seen : Type 0 where
   answer : ℕ
@@ -273,7 +270,7 @@ abbrev shown : ℕ → ℕ → List ℤ → List ℤ → List ℕ → Seen
 shown a w b c o = record { answer = a; worth = w; base = b; check = c; out = o }
 
 abbrev seen : Ran → Seen
-seen r = shown (number (r .answer)) (value (r .answer)) (r .base) (r .check) (r .out)
+seen r = shown (number r.answer) (value r.answer) r.base r.check r.out
 ";
 
 fn main() {
