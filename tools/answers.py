@@ -371,6 +371,8 @@ def turn(root, old, new, names, rel):
             invariants.insert(0, "\n".join(lines))
     body = "\n".join(answers)
     shared = [n for n in shared if re.search(r"(?<![\w.'-])" + re.escape(n) + r"(?![\w'-])", body)]
+    if cycle:
+        answers = [re.sub(r"\.requires\.0(?![\w.])", ".decreases", re.sub(r"\.requires\.1(?=[\s.)])", ".requires", x)) for x in answers]
     to = os.path.join(new, "proofs", rel)
     os.makedirs(to, exist_ok=True)
     base = f"Rattle.{crate}.proofs.{dotted}"

@@ -1,0 +1,10 @@
+-- `is_childless` collects the codes of the children behind the end mark, and asks whether the end mark is alone. Assumes nothing.
+use mathlib.Core.Path.{refl}
+use Rattle.pruning.proofs.FreedCells.{looks_collects, collected_childless}
+use Rattle.pruning.proofs.is_childless.Goals as goal
+
+pub collect-requires : goal.collect-requires
+collect-requires c = let (t, l) = c.requires in (t, looks_collects l refl)
+
+pub returns : goal.returns
+returns c = λ t l. collected_childless (c.collect.ensures t (looks_collects l refl))
