@@ -56,7 +56,3 @@ module _ {check : List ℤ} where
 
       pub climbed_far : {P : Profile} → most P < get_or depths at 0 + steps → Climbed P check t 0
       climbed_far {P} h = lost_home (depth_is (most P) ∙ lt-leb (get_or depths at 0 + steps) (most P) h)
-
-      pub climbed_home : {P : Profile} → 1 ≤ steps → get_or depths at 0 + steps ≤ most P →
-          Climbed P check t (get_or depths at 0 + steps)
-      climbed_home l h = record { lost = λ z. absurd (omega arith); found = λ k. depth_is; small = h }

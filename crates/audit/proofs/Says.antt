@@ -1,17 +1,14 @@
 -- Laws of a yes or no and what it is about. Assumes nothing.
 use mathlib.Core.Path.{◌≡◌, refl, sym, ◌∙◌}
-use mathlib.Core.Bool.{Bool, true, false, not, true≢false}
+use mathlib.Core.Bool.{Bool, true, false, true≢false}
 use Prim.Native.Nat.{ℕ, ◌≤◌}
 use native.Mathlib.Omega.{arith}
-use lib.Dec.{leb, eqb}
-use borrow.Author.Tests.{eqb-true, eqb-false, leb-true, leb-false, not-true, not-false}
+use lib.Dec.{leb}
+use borrow.Author.Tests.{leb-true, leb-false}
 use Rattle.rules.proofs.Choices.{fails}
 use Rattle.audit.specs.Says.{Says}
 
 module _ {A : Type 0} where
-  pub says_yes : A → Says A true
-  says_yes a = record { yes = λ e. a; no = λ e. absurd (true≢false e) }
-
   pub says_no : (A → ⊥) → Says A false
   says_no n = record { yes = λ e. absurd (true≢false (sym e)); no = λ e. n }
 
@@ -19,22 +16,7 @@ module _ {A : Type 0} where
   pub says_too : {B : Type 0} {r : Bool} → Says A r → (A → B) → (B → A) → Says B r
   says_too s f g = record { yes = λ e. f (s.yes e); no = λ e b. s.no e (g b) }
 
-  -- After `if !r`.
-  module _ (r : Bool) (s : Says A r) where
-    pub said_no : not r ≡ true → A → ⊥
-    said_no e = s.no (not-true r e)
-
-    pub said_yes : not r ≡ false → A
-    said_yes e = s.yes (not-false r e)
-
 -- ---- tests
-
-pub says_same : (a b : ℕ) → Says (a ≡ b) (eqb a b)
-says_same a b = record { yes = eqb-true a b; no = eqb-false a b }
-
--- A number that is 0 and is not.
-pub clash : {n : ℕ} → n ≡ 0 → 1 ≤ n → ⊥
-clash e h = omega arith
 
 -- An answer that equals the test whether n is not 0.
 module _ {n : ℕ} (r : Bool) (is : r ≡ leb 1 n) where
@@ -43,16 +25,6 @@ module _ {n : ℕ} (r : Bool) (is : r ≡ leb 1 n) where
 
   pub tested_none : r ≡ false → n ≡ 0
   tested_none e = let h = leb-false 1 n (sym is ∙ e) in omega arith
-
-  -- After `if !r`.
-  pub denied_some : not r ≡ true → n ≡ 0
-  denied_some e = tested_none (not-true r e)
-
-  pub granted_some : not r ≡ false → 1 ≤ n
-  granted_some e = tested_some (not-false r e)
-
-  pub says_some : Says (1 ≤ n) r
-  says_some = record { yes = tested_some; no = λ e. clash (tested_none e) }
 
 -- An answer that equals a test says whether the test passes, and the other way round.
 pub says_as : {r s : Bool} → r ≡ s → Says (s ≡ true) r
