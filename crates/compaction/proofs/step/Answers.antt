@@ -1,0 +1,14 @@
+-- `step` lowers, then trims the size. Assumes nothing.
+use Rattle.compaction.proofs.Compacting.{lowered_trimmed}
+use Rattle.compaction.proofs.step.Goals as goal
+
+pub trim-requires : goal.trim-requires
+trim-requires c =
+    let l = c in
+    let (t, a) = l.requires in
+    (_, (l.lower-moves.ensures t a).left)
+
+pub returns : goal.returns
+returns c = λ t a.
+    let m = c.lower-moves.ensures t a in
+    lowered_trimmed t m (c.trim.ensures _ m.left)
