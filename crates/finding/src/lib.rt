@@ -101,7 +101,7 @@ fn held(base: &[i32], check: &[i32], characters: usize, reached: Reached) -> Row
 // The cell to which the first character of the rest leads from the cell reached, or cell 0: a character without a code leads
 // nowhere.
 fn step(base: &[i32], check: &[i32], rest: &[u8], reached: Cell) -> Cell
-    requires rest_nonzero { 0 < length rest.now }
+    requires rest_nonempty { 0 < length rest.now }
     requires cell { IsCell base.now reached.0 }
     requires base_len_bound { length base.now ≤ 65536 }
     ensures { result.0 ≡ step_at base.now check.now reached.0 (get_or rest.now 0 0) }

@@ -155,12 +155,9 @@ module _ {base check : List ℤ} {s depth : ℕ} {characters : List ℕ} {n : �
     pub leaf_room : HasRoom out at (line_of (entry (take n characters) row))
     leaf_room = room_as one_line g.fits
 
-    -- Its length, and the byte after it.
+    -- Its length.
     leaf_length : length (line_of (entry (take n characters) row)) ≡ 11 + 2 * n
     leaf_length = length_line (entry (take n characters) row) ∙ ap (λ (k : ℕ). 11 + 2 * k) (begun_length g.beginning)
-
-    pub leaf_end : at + 11 + 2 * n ≤ length out
-    leaf_end = omega (arith, leaf_room.enough, leaf_length)
 
     pub leaf_lists : {out' : List ℕ} → out' ≡ sets out at (line_of (entry (take n characters) row)) →
         Lists lines_below_lem out out' at (at + 11 + 2 * n)

@@ -37,9 +37,6 @@ module _ (base check : List ℤ) where
   pub record Taken (room rest left : ℕ) : Type 0 where
     pub all : rest + lines (size_at base) ≡ room + lines left
 
-  pub taken_none : {room left : ℕ} → left ≡ size_at base → Taken room room left
-  taken_none e = record { all = rw e refl }
-
   module _ {room rest left : ℕ} (i : Taken room rest left) where
     pub taken_all : sound document01 base check ≡ true → left ≡ 0 → true ≡ leb (length bytes) room
     taken_all whole z = sym (le-leb (length bytes) room (omega (arith, i.all, listing_measured base check whole, sum_zero left (line_at base check) z)))

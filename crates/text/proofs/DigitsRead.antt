@@ -128,12 +128,6 @@ pub record Spelling (line : List ℕ) (i n : ℕ) (key : List ℕ) (j : ℕ) : T
   pub characters_left : take j key ++ pairs line (i + 2 * j) (n - j) ≡ pairs line i n
 
 module _ (line : List ℕ) (i n : ℕ) (key : List ℕ) where
-  pub spelling_first : Spelling line i n key 0
-  spelling_first =
-      let all : n - 0 ≡ n = omega arith in
-      let from : i + 2 * 0 ≡ i = omega arith in
-      record { within = omega arith; digits_left = rw (all, from); characters_left = rw (all, from) }
-
   module _ {j : ℕ} (s : Spelling line i n key j) where
     pub all_spelt : n ≤ j → CharactersRead line i n key true
     unfolding digits pairs

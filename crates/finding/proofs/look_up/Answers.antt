@@ -2,9 +2,6 @@
 use Rattle.finding.proofs.RowFound.{row_reached}
 use Rattle.finding.proofs.look_up.Goals as goal
 
-pub held-row-requires-clause-cell : goal.held-row-requires-clause-cell
-held-row-requires-clause-cell c = c.walk-reached.ensures.inside
-
 pub returns : goal.returns
 returns c =
     let w = c.walk-reached.ensures in

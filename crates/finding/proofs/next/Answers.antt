@@ -1,7 +1,6 @@
 -- `next` is `next_within`, and cell 0 from what is no cell of the arrays. Assumes nothing.
 use mathlib.Core.Path.{sym, ◌∙◌}
-use native.Mathlib.Omega.{arith}
-use borrow.Author.Tests.{leb-true, leb-false}
+use borrow.Author.Tests.{leb-true}
 use Rattle.finding.proofs.Leading.{from_none, from_past}
 use Rattle.finding.proofs.next.Goals as goal
 
@@ -10,6 +9,3 @@ returns-then-s-eq0 c = from_none _ _ _ _ c.if-s-eq0.true
 
 pub returns-then-is_past : goal.returns-then-is_past
 returns-then-is_past c = from_past _ _ _ _ (leb-true _ _ (sym c.is_past.ensures ∙ c.if-is_past.true))
-
-pub next_within-requires-clause-cell : goal.next_within-requires-clause-cell
-next_within-requires-clause-cell c = (omega arith, leb-false _ _ (sym c.is_past.ensures ∙ c.if-is_past.false))

@@ -41,12 +41,6 @@ module _ {base check : List ℤ} {key : List ℕ} {cell met n : ℕ} (right : wi
 pub returns-then-not-is_right_length : goal.returns-then-not-is_right_length
 returns-then-not-is_right_length c = wrong_length _ _ _ (was_no _ c.is_right_length.ensures c.if-not-is_right_length.true)
 
-pub slice_bounds-is_coded-count : goal.slice_bounds-is_coded-count
-slice_bounds-is_coded-count c = c.look_up-looked.ensures.walked.most
-
-pub slice_bounds-is_coded-start : goal.slice_bounds-is_coded-start
-slice_bounds-is_coded-start c = c.look_up-looked.ensures.walked.most
-
 pub returns-then-not-is_coded : goal.returns-then-not-is_coded
 returns-then-not-is_coded c =
     let right = was_yes _ c.is_right_length.ensures c.if-not-is_right_length.false in

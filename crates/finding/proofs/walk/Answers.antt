@@ -47,18 +47,6 @@ module _ {base check : List ℤ} {s n : ℕ} {text key : List ℕ} (u : Underway
           reaches = rw (first_and_rest text h, walk_goes_on base check s _ _ (leads_to_lem c) l, add-suc, ← suc-add n, ← add-one n) at u.reaches;
         }
 
-pub loop-rest-init : goal.loop-rest-init
-loop-rest-init c = record {
-  inside = (omega arith, omega (arith, c.requires.0));
-  counts = omega arith;
-  rest_is = refl;
-  left = refl;
-  reaches = record { cell_is = refl; met_is = omega arith };
-}
-
-pub step-t-requires-clause-cell : goal.step-t-requires-clause-cell
-step-t-requires-clause-cell c = c.loop-rest.invariant.inside
-
 pub returns-then-t-eq0 : goal.returns-then-t-eq0
 returns-then-t-eq0 c =
     stops c.loop-rest.invariant (omega arith) c.step-t.ensures c.if-t-eq0.true

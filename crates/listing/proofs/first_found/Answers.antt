@@ -1,28 +1,20 @@
 -- `first_found` tries label after label. The loop's invariant: the labels left have the same first one that leads somewhere. The measure
 -- is the number of labels left. Assumes nothing.
-use mathlib.Core.Path.{◌≡◌, refl, ◌∙◌}
-use mathlib.Core.Logic.{◌≢◌}
+use mathlib.Core.Path.{◌≡◌, ◌∙◌}
 use native.Mathlib.Omega.{arith}
 use Rattle.rules.specs.WhatTheIndexDoes.{document01}
 use Rattle.rules.specs.Finding.{next_at}
 use Rattle.rules.specs.Listing.{listed}
 use Rattle.tree.proofs.Listing.{listed_within}
 use Rattle.listing.proofs.FirstFound.{first_none, first_skip, first_here}
-use Rattle.listing.proofs.first_found.Goals.{After-next-t, In-loop-left}
+use Rattle.listing.proofs.first_found.Goals.{After-next-t}
 use Rattle.listing.proofs.first_found.Goals as goal
-
-pub loop-left-init : goal.loop-left-init
-loop-left-init c = (omega arith, refl)
-
-some : (c : In-loop-left) → c.loop-left.left ≢ 0
-some c = omega (arith, c.loop-left-test.true)
 
 pub next-t-requires-clause-code_bound : goal.next-t-requires-clause-code_bound
 next-t-requires-clause-code_bound c =
-    (listed_within document01 (some c.before) (omega (arith, c.loop-left.invariant.0, c.requires.labels_bound)) c.listed.ensures).1
+    (listed_within document01 (omega (arith, c.loop-left-test.true)) (omega (arith, c.loop-left.invariant.0, c.requires.labels_bound)) c.listed.ensures).1
 
--- ---- after the step
-
+-- Where the label leads.
 leads : (c : After-next-t) → c.next-t.result.0 ≡ next_at c.args.base.now c.args.check.now c.args.s.0 (listed document01 c.loop-left.left)
 leads c = rw (← c.listed.ensures) c.next-t.ensures
 

@@ -1,12 +1,9 @@
 -- `has_room` takes the line of each cell from the room, from the last cell down to the first. The measure is the number of cells left.
 -- Assumes nothing.
 use native.Mathlib.Omega.{arith}
-use Rattle.listing.proofs.WholeListing.{taken_none, taken_all, taken_short, taken_on}
+use Rattle.listing.proofs.WholeListing.{taken_all, taken_short, taken_on}
 use Rattle.listing.proofs.has_room.Goals.{In-loop-left}
 use Rattle.listing.proofs.has_room.Goals as goal
-
-pub loop-left-init : goal.loop-left-init
-loop-left-init c = taken_none _ _ c.plus_at-left.ensures.is
 
 pub returns-then-rest-n : goal.returns-then-rest-n
 returns-then-rest-n c =

@@ -6,9 +6,6 @@ use Rattle.listing.specs.Visiting.{DEEPEST}
 use Rattle.listing.proofs.Climbing.{steps_none, steps_home, steps_on}
 use Rattle.listing.proofs.steps.Goals as goal
 
-pub loop-n-init : goal.loop-n-init
-loop-n-init c = (omega arith, omega arith)
-
 pub returns-then-at-eq1-clause-value : goal.returns-then-at-eq1-clause-value
 returns-then-at-eq1-clause-value c =
     omega (arith, c.loop-n.invariant.1, steps_home c.args.check.now (DEEPEST - c.loop-n.n) c.if-at-eq1.true)

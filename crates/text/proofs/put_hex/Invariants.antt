@@ -2,13 +2,12 @@
 -- written. The measure is the number of digits left. Assumes nothing.
 use mathlib.Core.Path.{◌≡◌}
 use Prim.Native.Nat.{◌≤◌}
-use lib.ListN.{length}
 use lib.Seq.{sets}
 use Rattle.rules.specs.Listing.{hex}
 use Rattle.text.proofs.put_hex.Given as goal
 
 abbrev pub invariant-loop-left : goal.invariant-loop-left
-invariant-loop-left l = (length l.out ≡ length l.initial.out) × (l.left ≤ l.k) × (sets l.out l.at (hex l.left l.rest) ≡ sets l.initial.out l.at (hex l.k l.n))
+invariant-loop-left l = (l.left ≤ l.k) × (sets l.out l.at (hex l.left l.rest) ≡ sets l.initial.out l.at (hex l.k l.n))
 
 abbrev pub decreases-loop-left : goal.decreases-loop-left
 decreases-loop-left l = l.left

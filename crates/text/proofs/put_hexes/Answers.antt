@@ -1,16 +1,12 @@
 -- `put_hexes` writes characters one by one. The loop's invariant: what is written so far, with the rest written after it, is all of
 -- it written. The measure is the number of characters left. Assumes nothing.
-use mathlib.Core.Path.{refl, ◌∙◌}
-use native.Mathlib.Nat.{add-zero}
+use mathlib.Core.Path.{◌∙◌}
 use native.Mathlib.Omega.{arith}
 use lib.ListN.{drop_of_length-le}
 use Rattle.rules.specs.Listing.{hexes}
 use Rattle.rules.proofs.Digits.{length_hexes}
 use Rattle.text.proofs.Hexadecimal.{hexes_step}
 use Rattle.text.proofs.put_hexes.Goals as goal
-
-pub loop-i-init : goal.loop-i-init
-loop-i-init c = (refl, rw add-zero)
 
 pub overflow_add-at : goal.overflow_add-at
 overflow_add-at c = omega (arith, rw length_hexes at c.requires.enough)
@@ -20,8 +16,8 @@ put_hex-requires c = omega (arith, rw length_hexes at c.requires.enough)
 
 pub loop-i-preserved : goal.loop-i-preserved
 loop-i-preserved c =
-    (cc, rw c.put_hex.ensures (hexes_step c.loop-i.out c.args.key.now c.args.at c.loop-i.i (omega arith)) ∙ c.loop-i.invariant.1)
+    rw c.put_hex.ensures (hexes_step c.loop-i.out c.args.key.now c.args.at c.loop-i.i (omega arith)) ∙ c.loop-i.invariant
 
 pub returns : goal.returns
 unfolding hexes
-returns c = rw (drop_of_length-le c.args.key.now c.loop-i-test.false) at c.loop-i.invariant.1
+returns c = rw (drop_of_length-le c.args.key.now c.loop-i-test.false) at c.loop-i.invariant

@@ -8,7 +8,7 @@ use Rattle.rules.specs.Listing.{hexes}
 use Rattle.text.proofs.put_hexes.Given as goal
 
 abbrev pub invariant-loop-i : goal.invariant-loop-i
-invariant-loop-i l = (length l.out ≡ length l.initial.out) × (sets l.out (l.at + 2 * l.i) (hexes (drop l.i l.key)) ≡ sets l.initial.out l.at (hexes l.key))
+invariant-loop-i l = sets l.out (l.at + 2 * l.i) (hexes (drop l.i l.key)) ≡ sets l.initial.out l.at (hexes l.key)
 
 abbrev pub decreases-loop-i : goal.decreases-loop-i
 decreases-loop-i l = length l.key - l.i

@@ -1,13 +1,11 @@
 -- `characters` reads character after character. The loop's invariant: what is left to read comes to the whole. The measure is the number
 -- of characters left. Assumes nothing.
-use mathlib.Core.Path.{◌≡◌}
 use Prim.Native.Nat.{◌-◌}
-use lib.ListN.{length}
 use Rattle.text.proofs.DigitsRead.{Spelling}
 use Rattle.text.proofs.reading.characters.Given as goal
 
 abbrev pub invariant-loop-j : goal.invariant-loop-j
-invariant-loop-j l = (length l.key ≡ length l.initial.key) × Spelling l.line l.i l.n l.key l.j
+invariant-loop-j l = Spelling l.line l.i l.n l.key l.j
 
 abbrev pub decreases-loop-j : goal.decreases-loop-j
 decreases-loop-j l = l.n - l.j

@@ -14,12 +14,6 @@ use Rattle.text.proofs.reading.number.Goals.{Then-is_numeral, Else-not-is_letter
 pub loop-j-init : goal.loop-j-init
 loop-j-init c = going_first _ _ _ c.requires
 
-pub overflow_add-b : goal.overflow_add-b
-overflow_add-b c = omega (arith, c.requires.inside, c.loop-j-test.true)
-
-pub bounds-line-i : goal.bounds-line-i
-bounds-line-i c = omega (arith, c.requires.inside, c.loop-j-test.true)
-
 -- A digit 0-9: the byte's range, and one digit more fits.
 in_numerals : (c : Then-is_numeral) → within 48 57 (get_or c.args.line.now (c.args.i + c.loop-j.j) 0) ≡ true
 in_numerals c = sym c.is_numeral.ensures ∙ c.if-is_numeral.true
@@ -37,9 +31,6 @@ letter_fits c = number_fits _ _ _ c.requires c.loop-j.invariant c.loop-j-test.tr
 pub overflow_mul-n : goal.overflow_mul-n
 overflow_mul-n c = omega (arith, numeral_fits c)
 
-pub overflow_cast-n : goal.overflow_cast-n
-overflow_cast-n c = omega (arith, within_is 48 57 _ (in_numerals c))
-
 pub overflow_sub-n : goal.overflow_sub-n
 overflow_sub-n c = (within_is 48 57 _ (in_numerals c)).0
 
@@ -56,9 +47,6 @@ returns-then-not-is_letter c =
 
 pub overflow_mul-n-else-is_numeral : goal.overflow_mul-n-else-is_numeral
 overflow_mul-n-else-is_numeral c = omega (arith, letter_fits c)
-
-pub overflow_cast-n-else-is_numeral : goal.overflow_cast-n-else-is_numeral
-overflow_cast-n-else-is_numeral c = omega (arith, within_is 97 102 _ (in_letters c))
 
 pub overflow_sub-n-else-is_numeral : goal.overflow_sub-n-else-is_numeral
 overflow_sub-n-else-is_numeral c = omega (arith, within_is 97 102 _ (in_letters c))
