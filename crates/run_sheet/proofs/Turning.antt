@@ -11,15 +11,13 @@ use lib.IntN.{ℤ, pos, negsuc}
 use lib.Signed.{lt_z}
 use borrow.Author.Tests.{ltb-true}
 use borrow.Rule.Slice.PartMut.{put_mid, take_put}
-use Rattle.libc.specs.Io.{Moved}
-use Rattle.io.specs.Counts.{clamp_len}
 use Rattle.rules.specs.ARun.{sheet_lines}
 use Rattle.tree.proofs.SheetLines.{lines_few}
 use Rattle.sheets.specs.Answering.{AllAnswered}
 use Rattle.parts.specs.Parts.{PartAnswered, Streamed, ended, part}
 use Rattle.parts.proofs.InParts.{all_counted, all_written}
 use Rattle.run_sheet.specs.declared.Turn.TheVariants.{Part, Last, Failed}
-use Rattle.run_sheet.specs.Turns.{Ready, ReadBehind, Reached, PartTaken, LastTaken, Taken}
+use Rattle.run_sheet.specs.Turns.{Moved, Ready, ReadBehind, Reached, PartTaken, LastTaken, Taken}
 
 -- ---- what is read
 
@@ -31,7 +29,7 @@ module _ (buffer : List ℕ) (held : ℕ) where
   behind_long : length part_behind ≡ length buffer - held
   behind_long = length-take-le _ (drop held buffer) (rw length-drop (omega arith))
 
-  -- C's read fills it, and nothing else.
+  -- A read fills it, and nothing else.
   pub read_behind : (more : List ℕ) {got : ℤ} → held ≤ length buffer → Moved (length part_behind) got →
       ReadBehind buffer held got (put_mid held (length buffer - held) buffer more)
   read_behind more h m = record { kept = take_put held (length buffer - held) buffer more h; moved = rw behind_long at m }

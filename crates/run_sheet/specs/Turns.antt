@@ -1,6 +1,5 @@
 -- What the program holds from turn to turn, and what a turn comes to.
 use Rattle.std.specs.Prelude.{◌≡◌, true, List, ℕ, ◌+◌, ◌*◌, ◌-◌, ◌≤◌, length, take, ℤ, pos, negsuc}
-use Rattle.libc.specs.Io.{Moved}
 use Rattle.rules.specs.WhatTheIndexDoes.{document01}
 use Rattle.rules.specs.ASoundTable.{sound}
 use Rattle.tree.specs.Sheets.{TOO_LONG}
@@ -8,6 +7,11 @@ use Rattle.sheets.specs.Answering.{AllAnswered}
 use Rattle.parts.specs.Parts.{PartAnswered}
 use Rattle.run_sheet.specs.declared.Turn.{Turn}
 use Rattle.run_sheet.specs.declared.Turn.TheVariants.{Part, Last, Failed}
+
+-- What a read into n bytes may answer: -1, or how many bytes it moved, at most n.
+abbrev pub Moved : ℕ → ℤ → Type 0
+Moved n (pos k) = k ≤ n
+Moved n (negsuc k) = k ≡ 0
 
 -- A sound table, so many bytes that can be carried over, and buffers for a part and for its answers.
 pub record Ready (base check : List ℤ) (buffer : List ℕ) (held : ℕ) (out : List ℕ) : Type 0 where

@@ -7,7 +7,7 @@
 ghost use Rattle.std.specs.Prelude.{◌*◌, ◌≤◌, length};
 ghost use Rattle.run_sheet.specs.Turns.{Ready, ReadBehind, Reached, Taken};
 
-use libc::{STDERR_FILENO, STDIN_FILENO, STDOUT_FILENO};
+use std::io::{Read, Stderr, Stdin, Stdout, Write};
 
 // The elements of the table.
 const LENGTH: usize = 4096;
@@ -18,48 +18,67 @@ const PART: usize = 4096;
 // Room for as many answers as a part can have lines.
 const ROOM: usize = 11 * PART;
 
-fn main() {
+// The program's three streams.
+#[derive(Clone, Copy)]
+struct Streams {
+    input: Stdin,
+    output: Stdout,
+    errors: Stderr,
+}
+
+fn main(rt: HostRuntime) {
     let mut base = [0i32; LENGTH];
     let mut check = [0i32; LENGTH];
     let mut buffer = [0u8; PART];
     let mut answers = [0u8; ROOM];
+    let streams = Streams {
+        input: rt.stdin(),
+        output: rt.stdout(),
+        errors: rt.stderr(),
+    };
     index::fresh(&mut base, &mut check);
-    answer_all(&mut base, &mut check, &mut buffer, &mut answers);
+    answer_all(streams, &mut base, &mut check, &mut buffer, &mut answers);
 }
 
 // Has part after part answered and writes the answers, until the sheet ends. A proved loop has to end, and nothing says that a sheet
 // does: so the turns are counted down, from a number that no run uses up.
-fn answer_all(base: &mut [i32], check: &mut [i32], buffer: &mut [u8], answers: &mut [u8])
+fn answer_all(
+    streams: Streams,
+    base: &mut [i32],
+    check: &mut [i32],
+    buffer: &mut [u8],
+    answers: &mut [u8],
+)
     requires { Ready base.old check.old buffer.old 0 answers.old }
 {
     let mut held = 0;
     let mut turns = u64::MAX;
     while 0 < turns {
         turns -= 1;
-        let got = read(buffer, held);
+        let got = read(streams, buffer, held);
         let turn = answer_part(base, check, buffer, held, got, answers);
         match turn {
             Turn::Part(lines, carried) => {
-                if !write(answers, lines) {
+                if !write(streams, answers, lines) {
                     return;
                 }
                 held = carried;
             }
             Turn::Last(lines) => {
-                write(answers, lines);
+                write(streams, answers, lines);
                 return;
             }
             Turn::Failed => {
-                say(b"run_sheet: standard input could not be read\n");
+                say(streams, b"run_sheet: standard input could not be read\n");
                 return;
             }
         }
     }
-    say(b"run_sheet: the sheet has too many parts\n");
+    say(streams, b"run_sheet: the sheet has too many parts\n");
 }
 
 // What came of a turn.
-#[derive(Drop)]
+#[derive(Clone, Copy)]
 pub enum Turn {
     // So many lines were answered, and so many bytes are carried over.
     Part(usize, usize),
@@ -69,12 +88,16 @@ pub enum Turn {
     Failed,
 }
 
-// Reads once, behind what is carried over; gives what C's read gives.
-fn read(buffer: &mut [u8], held: usize) -> isize
+// Reads once, behind what is carried over; gives the number of bytes that were read, or -1 where the read failed.
+fn read(streams: Streams, buffer: &mut [u8], held: usize) -> isize
     requires { held ≤ length buffer.old }
     ensures { ReadBehind buffer.old held result buffer.new }
 {
-    libc::read(STDIN_FILENO, &mut buffer[held..])
+    let mut input = streams.input;
+    match input.read(&mut buffer[held..]) {
+        Ok(got) => got as isize,
+        Err(_) => -1,
+    }
 }
 
 // Answers the lines that are finished with what was read behind what is carried over; or what is carried over, where nothing was read,
@@ -93,7 +116,7 @@ fn answer_part(
     if got < 0 {
         return Turn::Failed;
     }
-    let n = held + io::count(got, &buffer[held..]);
+    let n = held + got as usize;
     if n == held {
         return Turn::Last(sheets::answer(base, check, &buffer[..held], answers));
     }
@@ -102,18 +125,20 @@ fn answer_part(
 }
 
 // Writes so many answers; gives whether all of them were taken, and says so where they were not.
-fn write(answers: &[u8], lines: usize) -> bool
+fn write(streams: Streams, answers: &[u8], lines: usize) -> bool
     requires { 11 * lines ≤ length answers.now }
 {
     let bytes = 11 * lines;
-    let done = io::write_all(STDOUT_FILENO, &answers[..bytes]);
+    let mut output = streams.output;
+    let done = output.write_all(&answers[..bytes]).is_ok();
     if !done {
-        say(b"run_sheet: standard output could not be written\n");
+        say(streams, b"run_sheet: standard output could not be written\n");
     }
     done
 }
 
 // Says why the sheet is not answered to its end.
-fn say(why: &[u8]) {
-    io::write_all(STDERR_FILENO, why);
+fn say(streams: Streams, why: &[u8]) {
+    let mut errors = streams.errors;
+    let _ = errors.write_all(why);
 }
