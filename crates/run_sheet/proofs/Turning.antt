@@ -1,13 +1,13 @@
 -- What is read, and what is known of a turn from what came of it; and that turn after turn makes a sheet that comes in parts, of which
 -- `stream_whole` says that it is answered as the whole would be. Assumes nothing.
-use mathlib.Core.Path.{◌≡◌, ap, ◌∙◌}
+use mathlib.Core.Path.{◌≡◌, refl, ap, ◌∙◌}
 use mathlib.Core.Bool.{true, false, true≢false}
 use mathlib.Core.List.{List, [], ◌++◌}
 use Prim.Native.Nat.{ℕ, ◌+◌, ◌*◌, ◌-◌, ◌≤◌}
 use native.Mathlib.Omega.{arith}
 use lib.ListN.{length, take, drop, length-drop}
 use lib.Seq.{length-take-le, length-sets, take-add}
-use lib.IntN.{ℤ, pos, negsuc}
+use lib.IntN.{ℤ, pos, negsuc, nat_abs}
 use lib.Signed.{lt_z}
 use borrow.Author.Tests.{ltb-true}
 use borrow.Rule.Slice.PartMut.{put_mid, take_put}
@@ -39,10 +39,11 @@ module _ (buffer : List ℕ) (held : ℕ) where
   none_got (pos k) m y = absurd (omega (arith, ltb-true k 0 y))
   none_got (negsuc k) m y = ap negsuc m
 
-  -- Another gave the number of bytes, and so many are counted.
-  pub all_got : (got : ℤ) {r : ℕ} → Moved (length buffer - held) got → lt_z got (pos 0) ≡ false → r ≡ clamp_len got (length part_behind) → got ≡ pos r
-  all_got (pos k) m f is = ap pos (omega (arith, behind_long))
-  all_got (negsuc k) m f is = absurd (true≢false f)
+  -- Another gave the number of bytes, which are there.
+  pub all_got : (got : ℤ) → Moved (length buffer - held) got → lt_z got (pos 0) ≡ false →
+      (got ≡ pos (nat_abs got)) × (nat_abs got ≤ length buffer - held)
+  all_got (pos k) m f = (refl, m)
+  all_got (negsuc k) m f = absurd (true≢false f)
 
 -- What a turn needs is there after it.
 pub reached : {base check : List ℤ} {buffer : List ℕ} {held : ℕ} {out : List ℕ} {got : ℤ} {buffer' : List ℕ} →

@@ -132,7 +132,10 @@ fn write(streams: Streams, answers: &[u8], lines: usize) -> bool
     let mut output = streams.output;
     let done = output.write_all(&answers[..bytes]).is_ok();
     if !done {
-        say(streams, b"run_sheet: standard output could not be written\n");
+        say(
+            streams,
+            b"run_sheet: standard output could not be written\n",
+        );
     }
     done
 }
