@@ -6,10 +6,9 @@ use mathlib.Core.Bool.{Bool, true, false, ◌&&◌, true≢false}
 use mathlib.Core.List.{List, ◌∷◌}
 use mathlib.Core.Option.{none}
 use Prim.Native.Nat.{ℕ, zero, suc, ◌+◌, ◌*◌, ◌-◌, ◌≤◌, ◌<◌}
-use native.Mathlib.Nat.{eq-or-lt_of_le}
 use native.Mathlib.Omega.{arith}
 use lib.ListN.{length, get_or, take, drop}
-use lib.Seq.{length-take-le, get_or-take, take-add, take-take, drop-drop}
+use lib.Seq.{length-take-le, take-add, take-take, drop-drop}
 use lib.Dec.{eqb}
 use borrow.Author.Tests.{eq-eqb, eqb-true, lt-ltb, le-ltb}
 use Rattle.numbers.proofs.Cases.{lt_or_ge}
@@ -18,25 +17,11 @@ use Rattle.rules.specs.ARun.{digits, read_on, field, pairs, command_of, parsed}
 use Rattle.rules.proofs.Choices.{branch, both, join}
 use Rattle.rules.proofs.Digits.{digits_append, digits_parts}
 use Rattle.rules.proofs.Texts.{drop_take}
-use Rattle.tree.specs.Sheets.{Unbroken, FirstLine}
+use Rattle.tree.specs.Sheets.{FirstLine}
 use Rattle.tree.proofs.SheetLines.{digits_unbroken}
 use Rattle.text.specs.Reading.{are_digits, NumberRead, CharactersRead}
 use Rattle.text.proofs.DigitsRead.{number_is, is_number, no_number}
 use Rattle.sheets.specs.Reading.{is_end, FieldsRead, NoFields}
-
--- ---- bytes without a line feed
-
-pub unbroken_none : (rest : List ℕ) → Unbroken (take 0 rest)
-unbroken_none rest k h = absurd (omega arith)
-
-pub unbroken_more : (rest : List ℕ) (i : ℕ) → Unbroken (take i rest) → i < length rest → get_or rest i 0 ≢ LF → Unbroken (take (i + 1) rest)
-unbroken_more rest i u h d k l =
-    let n : length (take (i + 1) rest) ≡ i + 1 = length-take-le (i + 1) rest (omega arith) in
-    let m : length (take i rest) ≡ i = length-take-le i rest (omega arith) in
-    rw (get_or-take (i + 1) rest k 0 (omega arith)) (⊎_elim
-    (λ (e : k ≡ i). rw e d)
-    (λ (s : k < i). rw (get_or-take i rest k 0 s) at (u k (omega arith)))
-    (eq-or-lt_of_le (let s : k ≤ i = omega arith in s)))
 
 -- ---- a part of a part
 

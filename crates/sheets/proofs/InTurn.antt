@@ -22,7 +22,6 @@ use Rattle.rules.specs.Calls.{sound_run}
 use Rattle.rules.specs.Promised.{Edits, Runs}
 use Rattle.rules.proofs.Codes.{document01_round_trip}
 use Rattle.rules.proofs.Digits.{length_answer}
-use Rattle.rules.proofs.Lengths.{lengths_same}
 use Rattle.rules.proofs.Texts.{none_left}
 use Rattle.tree.specs.Renders.{Renders}
 use Rattle.tree.proofs.Elements.{base_length}
@@ -35,9 +34,6 @@ use Rattle.text.proofs.Sets.{sets_then, sets_part}
 use Rattle.sheets.specs.Reading.{FieldsRead}
 use Rattle.sheets.proofs.Counted.{next_line}
 use Rattle.sheets.specs.Answering.{line_edit, fields_edit, AnswersLines, lines_answered, AllAnswered}
-
-lengths_sound : (base check : List ℤ) → sound document01 base check ≡ true → length base ≡ length check
-lengths_sound base check whole = lengths_same base check (rules_render document01 base check whole).lengths
 
 -- ---- a line
 
@@ -83,13 +79,7 @@ module _ (base₀ check₀ : List ℤ) (sheet out₀ : List ℕ) where
     pub out_long : length out ≡ length out₀
 
   module _ (asked : AnswersLines base₀ check₀ sheet out₀) where
-    pub still_first : Still base₀ check₀ out₀ sheet 0
-    still_first = record { whole = asked.whole; long = refl; lines_left = omega arith; table_left = refl; bytes_left = refl; out_long = refl }
-
     module _ {base check : List ℤ} {out rest : List ℕ} {count : ℕ} (s : Still base check out rest count) where
-      pub check_long : length check ≡ length check₀
-      check_long = sym (lengths_sound base check s.whole) ∙ s.long ∙ lengths_sound base₀ check₀ asked.whole
-
       pub still_last : length rest ≤ 0 → AllAnswered base₀ check₀ sheet out₀ count base check out
       unfolding sheet_lines answered_lines
       still_last h =
