@@ -1,7 +1,7 @@
 # Builds and installs the library for C.
 #   make             proves the library and builds the archive for this machine
 #   make install     puts header, archive and zsermulat.pc below PREFIX (/usr/local), itself below DESTDIR if that is set
-#   make test        proves everything from nothing and runs all tests
+#   make test        proves everything and runs all tests
 #   make uninstall   removes what install has put there
 PREFIX ?= /usr/local
 INCLUDEDIR ?= $(PREFIX)/include

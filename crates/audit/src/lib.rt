@@ -43,7 +43,7 @@ const SMALL: usize = 4096;
 // Rules 2 to 7 of a small table, where rule 1 holds.
 fn are_rules_kept_small(base: &[i32], check: &[i32], size: usize) -> bool
     requires first_kept { FirstKept base.now check.now size }
-    requires size_bound { size < 4096 }
+    requires small { size < 4096 }
     ensures { result ≡ sound document01 base.now check.now }
 {
     let mut marks = [false; SMALL];
@@ -84,7 +84,7 @@ fn are_rules_kept(
 // Rule 1: whether every cell past the size is 0 in both arrays.
 fn is_past_nought(base: &[i32], check: &[i32], size: usize) -> bool
     requires sized { Sized base.now size }
-    requires base_len { length base.now ≡ length check.now }
+    requires same_length { length base.now ≡ length check.now }
     ensures { Says (PastNought base.now check.now) result }
 {
     let mut t = base.len() - 1;
@@ -111,7 +111,7 @@ fn is_nought(s: &[i32], t: Cell) -> bool
 // looked at downwards, so that the next greater free cell is the one met last. Each parent is marked on the way.
 fn are_cells_kept(base: &[i32], check: &[i32], size: usize, parents: &mut [bool]) -> bool
     requires sized { Sized base.now size }
-    requires base_len { length base.now ≡ length check.now }
+    requires same_length { length base.now ≡ length check.now }
     requires marks_past { MarksPast base.now check.now size parents.old }
     ensures { CellsMarked document01 base.now check.now parents.new result }
 {
@@ -151,7 +151,7 @@ fn is_free_kept(base: &[i32], check: &[i32], t: Cell, next: Cell) -> bool
 // follows from the climb.
 fn is_used_kept(base: &[i32], size: usize, t: Cell, parent: Cell) -> bool
     requires sized { Sized base.now size }
-    requires t_le_size { t.0 ≤ size }
+    requires inside { t.0 ≤ size }
     ensures { Says (UsedKept document01 base.now t.0 parent.0) result }
 {
     if size < parent.0 {
@@ -179,7 +179,7 @@ fn is_used_kept(base: &[i32], size: usize, t: Cell, parent: Cell) -> bool
 
 // Rule 4, where every parent is marked.
 fn is_root_kept(base: &[i32], check: &[i32], parents: &[bool]) -> bool
-    requires bound { 1 ≤ size_at base.now }
+    requires some_size { 1 ≤ size_at base.now }
     requires marks_past { MarksPast base.now check.now 1 parents.now }
     ensures { result ≡ rule4 document01 base.now check.now }
 {

@@ -88,7 +88,7 @@ fn walk(base: &[i32], check: &[i32], key: &[u8]) -> Reached
 // The row after the end mark, where a walk along so many characters found them all; otherwise row 0, which is none.
 fn held(base: &[i32], check: &[i32], characters: usize, reached: Reached) -> Row
     requires cell { IsCell base.now reached.cell.0 }
-    requires base_len_bound { length base.now ≤ 65536 }
+    requires length_small { length base.now ≤ 65536 }
     ensures { result.0 ≡ row_of base.now (leaf_after base.now check.now characters (record { cell = reached.cell.0; met = reached.met })) }
 {
     if reached.met != characters {
@@ -103,7 +103,7 @@ fn held(base: &[i32], check: &[i32], characters: usize, reached: Reached) -> Row
 fn step(base: &[i32], check: &[i32], rest: &[u8], reached: Cell) -> Cell
     requires rest_nonempty { 0 < length rest.now }
     requires cell { IsCell base.now reached.0 }
-    requires base_len_bound { length base.now ≤ 65536 }
+    requires length_small { length base.now ≤ 65536 }
     ensures { result.0 ≡ step_at base.now check.now reached.0 (get_or rest.now 0 0) }
 {
     let code = Alphabet::code(rest[0]);
@@ -115,8 +115,8 @@ fn step(base: &[i32], check: &[i32], rest: &[u8], reached: Cell) -> Cell
 
 // The cell to which a label leads from s, or cell 0.
 pub fn next(base: &[i32], check: &[i32], s: Cell, code: usize) -> Cell
-    requires code_bound { code ≤ GREATEST }
-    requires base_len_bound { length base.now ≤ 65536 }
+    requires code_small { code ≤ GREATEST }
+    requires length_small { length base.now ≤ 65536 }
     ensures { result.0 ≡ next_at base.now check.now s.0 code }
 {
     if s.0 == 0 {
@@ -130,9 +130,9 @@ pub fn next(base: &[i32], check: &[i32], s: Cell, code: usize) -> Cell
 
 // The same from a cell that is known to be one of the arrays': the walk comes to no other.
 fn next_within(base: &[i32], check: &[i32], s: Cell, code: usize) -> Cell
-    requires code_bound { code ≤ GREATEST }
+    requires code_small { code ≤ GREATEST }
     requires cell { IsCell base.now s.0 }
-    requires base_len_bound { length base.now ≤ 65536 }
+    requires length_small { length base.now ≤ 65536 }
     ensures { result.0 ≡ next_at base.now check.now s.0 code }
 {
     let at = s.0;

@@ -8,7 +8,7 @@ use native.Mathlib.Omega.{arith}
 use lib.ListN.{length, get_or, get_or-eq_default}
 use lib.IntN.{ℤ, pos, negsuc}
 use Rattle.numbers.proofs.Cases.{lt_or_ge}
-use Rattle.numbers.specs.Stored.{negative, plus_of, minus_of, Reads}
+use Rattle.numbers.specs.Stored.{negative, plus_of, minus_of}
 
 -- ---- one number
 
@@ -50,9 +50,6 @@ minus_is z {n} e h = sides z (negative n) (other_side z (rw e h) ∙ sym (plus_n
 module _ (f : ℤ → ℕ) (nought : f (pos 0) ≡ 0) (xs : List ℤ) (i : ℕ) where
   pub at_past : length xs ≤ i → f (get_or xs i (pos 0)) ≡ 0
   at_past h = ap f (get_or-eq_default xs (pos 0) h) ∙ nought
-
-  pub reads_past : length xs ≤ i → Reads (f (get_or xs i (pos 0))) 0
-  reads_past h = record { is = sym (at_past h); small = omega arith }
 
   -- An element that is not 0 lies within the array.
   pub at_inside : 1 ≤ f (get_or xs i (pos 0)) → i < length xs

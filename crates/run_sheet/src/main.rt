@@ -1,7 +1,7 @@
 // The program run_sheet: answers a sheet from standard input to standard output, over a fresh table of 4,096 elements. It reads what is
 // there, answers the lines that are finished and writes their answers before it reads on; what it holds at a time is bounded, however
-// long the sheet is. A program has no exit status of its own: where the sheet could not be answered to its end, it says why in one line
-// on standard error, and otherwise nothing.
+// long the sheet is. It has no exit status of its own: where the sheet could not be answered to its end, it says why in one line on
+// standard error, and otherwise nothing.
 #![tactic(auto)]
 
 ghost use Rattle.std.specs.Prelude.{◌*◌, ◌≤◌, length};

@@ -1,5 +1,5 @@
--- `are_cells_kept` looks at the cells downwards: it asks each, keeps the free cell met last, and marks the parents. The measure
--- is the number of cells left. Assumes nothing.
+-- `are_cells_kept` looks at the cells downwards: it asks each, keeps the free cell met last, and marks the parents. Assumes
+-- nothing.
 use mathlib.Core.Path.{◌≡◌, refl, sym, subst, ◌∙◌}
 use mathlib.Core.Bool.{Bool, true, false, false≢true}
 use mathlib.Core.List.{List}

@@ -6,8 +6,8 @@ use Rattle.audit.proofs.SoundKept.{sound_cells, sound_root, sound_ways}
 use Rattle.audit.proofs.KeptSound.{kept_closed, kept_sound}
 use Rattle.audit.proofs.are_rules_kept.Goals as goal
 
-pub are_cells_kept-requires-clause-base_len : goal.are_cells_kept-requires-clause-base_len
-are_cells_kept-requires-clause-base_len c = lengths_same _ _ c.requires.first.lengths
+pub are_cells_kept-requires-clause-same_length : goal.are_cells_kept-requires-clause-same_length
+are_cells_kept-requires-clause-same_length c = lengths_same _ _ c.requires.first.lengths
 
 pub returns-then-not-are_cells_kept : goal.returns-then-not-are_cells_kept
 returns-then-not-are_cells_kept c =

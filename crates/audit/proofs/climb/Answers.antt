@@ -1,5 +1,4 @@
--- `climb` counts the steps to the first cell below the one where it started, and adds the depth noted there. The measure is
--- what is left of the most steps. Assumes nothing.
+-- `climb` counts the steps to the first cell below the one where it started, and adds the depth noted there. Assumes nothing.
 use mathlib.Core.Logic.{inr}
 use native.Mathlib.Omega.{arith}
 use Rattle.audit.proofs.Climbing.{climb_start, climb_on, climbed_out, climbed_far}

@@ -16,8 +16,8 @@ returns-then-size-eq0 c = refuted (λ e. omega (arith, (sound_first _ _ _ e).siz
 pub returns-then-base-size : goal.returns-then-base-size
 returns-then-base-size c = refuted (λ e. omega (arith, (sound_first _ _ _ e).sized.fits))
 
-pub is_past_nought-requires-clause-base_len : goal.is_past_nought-requires-clause-base_len
-is_past_nought-requires-clause-base_len c =
+pub is_past_nought-requires-clause-same_length : goal.is_past_nought-requires-clause-same_length
+is_past_nought-requires-clause-same_length c =
     lengths_same _ _ (was_yes _ c.right_lengths.ensures c.if-not-right_lengths.false)
 
 pub returns-then-not-is_past_nought : goal.returns-then-not-is_past_nought

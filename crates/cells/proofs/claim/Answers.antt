@@ -19,15 +19,13 @@ widen-requires c = let (t, a) = c.requires in (t, widens a)
 
 pub prior-p-requires : goal.prior-p-requires
 prior-p-requires c =
-    let w = c in
-    let (t, a) = w.requires in
-    shown_walks (w.widen.ensures t (widens a)) _ (omega arith) a.some
+    let (t, a) = c.requires in
+    shown_walks (c.widen.ensures t (widens a)) _ (omega arith) a.some
 
 pub put_minus-requires : goal.put_minus-requires
 put_minus-requires c =
-    let w = c in
-    let (t, a) = w.requires in
-    omega (arith, link_small (w.widen.ensures t (widens a)) _ (ap not a.unused) (omega arith), c.minus_at-n.ensures.is)
+    let (t, a) = c.requires in
+    omega (arith, link_small (c.widen.ensures t (widens a)) _ (ap not a.unused) (omega arith), c.minus_at-n.ensures.is)
 
 pub put_plus-requires : goal.put_plus-requires
 put_plus-requires c =
@@ -36,10 +34,7 @@ put_plus-requires c =
 
 pub returns : goal.returns
 returns c = λ t a.
-    let m = c in
-    let n = m in
-    let p = n in
-    let wide = p.widen.ensures t (widens a) in
-    let b = shown_before wide _ (omega arith) p.prior-p.ensures in
-    rw (c.put_plus.ensures, m.put_minus.ensures, n.minus_at-n.ensures.is)
+    let wide = c.widen.ensures t (widens a) in
+    let b = shown_before wide _ (omega arith) c.prior-p.ensures in
+    rw (c.put_plus.ensures, c.put_minus.ensures, c.minus_at-n.ensures.is)
     (take_out wide b (omega arith) a.some a.unused _ a.parent)

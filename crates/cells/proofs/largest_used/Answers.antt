@@ -1,5 +1,4 @@
--- `largest_used` goes down from the size. The loop's invariant: the largest used cell is the largest one up to u. The measure is
--- u. Assumes nothing.
+-- `largest_used` goes down from the size. Assumes nothing.
 use mathlib.Core.Path.{◌≡◌, sym, ◌∙◌}
 use mathlib.Core.Logic.{inl}
 use mathlib.Core.Bool.{true, false}

@@ -1,5 +1,4 @@
--- `prior` walks the chain up to u. The loop's invariant: p lies below u, on every chain in check that comes as far as u, and
--- names n. The measure is what is left to u. Assumes nothing.
+-- `prior` walks the chain up to u. Assumes nothing.
 use mathlib.Core.Path.{◌≡◌}
 use mathlib.Core.Bool.{Bool, true}
 use mathlib.Core.List.{List}

@@ -6,4 +6,4 @@ use Rattle.cells.proofs.put_row.Goals as goal
 
 pub put_minus-requires : goal.put_minus-requires
 unfolding is_row
-put_minus-requires c = let s = c in omega (arith, within_is 1 1000000 s.args.row.0 s.requires)
+put_minus-requires c = omega (arith, within_is 1 1000000 c.args.row.0 c.requires)

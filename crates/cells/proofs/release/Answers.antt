@@ -28,15 +28,11 @@ put_minus-requires c =
 
 pub put_minus-requires-2 : goal.put_minus-requires-2
 put_minus-requires-2 c =
-    let k = c in
-    let (t, a) = k.requires in
-    let b = before a k.prior-p.ensures in
-    omega (arith, link_small a.shown _ b.on (omega (arith, inside a, b.below)), k.minus_at-n.ensures.is)
+    let (t, a) = c.requires in
+    let b = before a c.prior-p.ensures in
+    omega (arith, link_small a.shown _ b.on (omega (arith, inside a, b.below)), c.minus_at-n.ensures.is)
 
 pub returns : goal.returns
 returns c = λ t a.
-    let k = c in
-    let m = k in
-    let n = m in
-    rw (c.put_plus.ensures, k.put_minus-2.ensures, m.put_minus.ensures, n.minus_at-n.ensures.is)
-    (put_in a.shown (before a n.prior-p.ensures) (inside a) a.far a.parent)
+    rw (c.put_plus.ensures, c.put_minus-2.ensures, c.put_minus.ensures, c.minus_at-n.ensures.is)
+    (put_in a.shown (before a c.prior-p.ensures) (inside a) a.far a.parent)

@@ -1,5 +1,4 @@
--- `shrink` writes 0 into each cell that it passes. The loop's invariant: check is as it would be if the size were i. The measure
--- is what is left to n. Assumes nothing.
+-- `shrink` writes 0 into each cell that it passes. Assumes nothing.
 use mathlib.Core.Path.{◌≡◌, refl, ◌∙◌}
 use mathlib.Core.List.{List}
 use Prim.Native.Nat.{ℕ, zero, suc, ◌-◌, ◌≤◌, ◌<◌}

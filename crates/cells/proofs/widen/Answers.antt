@@ -1,5 +1,4 @@
--- `widen` links each cell that it passes to the next one. The loop's invariant: check is as it would be if the size were i. The
--- measure is what is left to n. Assumes nothing.
+-- `widen` links each cell that it passes to the next one. Assumes nothing.
 use mathlib.Core.Path.{◌≡◌, refl, ◌∙◌}
 use mathlib.Core.Bool.{false}
 use mathlib.Core.List.{List}

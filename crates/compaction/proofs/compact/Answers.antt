@@ -1,5 +1,4 @@
--- `compact` trims the size, then repeats steps. The loop's invariant: the steps that are left come to what n steps from the trimmed
--- table come to. The measure is what is left to n. Assumes nothing.
+-- `compact` trims the size, then repeats steps. Assumes nothing.
 use mathlib.Core.Path.{◌≡◌, refl, ◌∙◌}
 use mathlib.Core.Logic.{◌≢◌}
 use mathlib.Core.List.{List}
@@ -8,13 +7,11 @@ use native.Mathlib.Omega.{arith}
 use lib.ListN.{length}
 use lib.IntN.{ℤ}
 use Rattle.rules.specs.WhatTheIndexDoes.{document01}
-use Rattle.rules.specs.Table.{Table}
-use Rattle.rules.specs.DeletionAndCompaction.{trimmed, compaction_step, compaction_steps, compacted}
+use Rattle.rules.specs.DeletionAndCompaction.{compaction_step, compaction_steps, compacted}
 use Rattle.cells.specs.Edits.{SomeTable, EveryTable}
 use Rattle.compaction.specs.Lowering.{Steps, Moved}
 use Rattle.compaction.proofs.Compacting.{steps_trimmed, going_begun, going_ended, going_stopped, going_on}
 use Rattle.compaction.proofs.compact.Invariants.{Repeating}
-use Rattle.compaction.proofs.compact.Goals.{After-step, After-trim, At-loop-made, Start}
 use Rattle.compaction.proofs.compact.Goals as goal
 
 starts : {base check : List ℤ} {n : ℕ} → Repeating base check n base check 0
@@ -38,21 +35,6 @@ module _ {base₀ check₀ : List ℤ} {n : ℕ} {base check : List ℤ} {made :
       goes = λ t a. let g = w.goes t a in going_on g l (f g.here g.asked) d;
     }
 
--- ---- the ways back
-abbrev entry : After-trim → Start
-entry c = c.before.before.before
-
-abbrev trimming : At-loop-made → After-trim
-trimming c = c.before.before.before
-
-abbrev looping : After-step → At-loop-made
-looping c = c.before.before.before.before
-
--- The arrays show the trimmed table when the loop begins.
-begun : (c : After-trim) {t : Table} → let a = (entry c).args in Steps a.base.now a.check.now t →
-    Steps c.trim.new.base c.trim.new.check (trimmed t.cells t.size)
-begun c a = steps_trimmed a (c.trim.ensures _ a.shown)
-
 -- ---- the needs
 pub trim-requires : goal.trim-requires
 trim-requires c = let (t, a) = c.requires in (t, a.shown)
@@ -62,21 +44,18 @@ loop-made-init c = starts
 
 pub step-requires : goal.step-requires
 step-requires c =
-    let l = c in
-    let (t, a) = (entry (trimming l.before.before.before)).requires in
-    asks l.loop-made.invariant (_, begun (trimming l.before.before.before) a)
+    let (t, a) = c.requires in
+    asks c.loop-made.invariant (_, steps_trimmed a (c.trim.ensures _ a.shown))
 
 pub returns-then-step-eq0 : goal.returns-then-step-eq0
 unfolding compacted
 returns-then-step-eq0 c = λ t a.
-    let s = c in
-    stops (looping s.before.before.before).loop-made.invariant (omega arith) s.step.ensures c.if-step-eq0.true _ (begun (trimming (looping s.before.before.before)) a)
+    stops c.loop-made.invariant (omega arith) c.step.ensures c.if-step-eq0.true _ (steps_trimmed a (c.trim.ensures _ a.shown))
 
 pub loop-made-preserved : goal.loop-made-preserved
 loop-made-preserved c =
-    let s = c in
-    goes_on (looping s.before.before.before).loop-made.invariant (omega arith) s.step.ensures c.if-step-eq0.false s.step.auto.base s.step.auto.check
+    goes_on c.loop-made.invariant (omega arith) c.step.ensures c.if-step-eq0.false c.step.auto.base c.step.auto.check
 
 pub returns : goal.returns
 unfolding compacted
-returns c = λ t a. ends c.loop-made.invariant c.loop-made-test.false _ (begun (trimming c.before) a)
+returns c = λ t a. ends c.loop-made.invariant c.loop-made-test.false _ (steps_trimmed a (c.trim.ensures _ a.shown))

@@ -4,9 +4,8 @@ use Rattle.compaction.proofs.step.Goals as goal
 
 pub trim-requires : goal.trim-requires
 trim-requires c =
-    let l = c in
-    let (t, a) = l.requires in
-    (_, (l.lower-moves.ensures t a).left)
+    let (t, a) = c.requires in
+    (_, (c.lower-moves.ensures t a).left)
 
 pub returns : goal.returns
 returns c = λ t a.

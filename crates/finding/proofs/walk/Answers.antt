@@ -1,5 +1,4 @@
--- `walk` walks along the text. The loop's invariant: the walk along the rest, after the characters met, is the walk along the whole,
--- and the whole has codes exactly if the rest has. The measure is the length of the rest. Assumes nothing.
+-- `walk` walks along the text. Assumes nothing.
 use mathlib.Core.Path.{◌≡◌, refl, sym, ap, ◌∙◌}
 use mathlib.Core.Bool.{true}
 use mathlib.Core.List.{List, map}

@@ -1,5 +1,5 @@
 -- `grow` follows the course label by label: it claims the cell to which the first label leads and grows the rest from there; where
--- that does not fit, it takes the cell back. The measure is the length of the rest. Assumes nothing.
+-- that does not fit, it takes the cell back. Assumes nothing.
 use mathlib.Core.Path.{◌≡◌, ap, ap₂, ◌∙◌}
 use mathlib.Core.Logic.{⊎_elim}
 use mathlib.Core.List.{List, [], ◌∷◌}
@@ -59,7 +59,8 @@ pub put_row-requires : goal.put_row-requires
 put_row-requires n c = let (t, g) = c.requires in g.row_is
 
 pub returns-then-rest-eq0 : goal.returns-then-rest-eq0
-returns-then-rest-eq0 n c = λ t g. grow_ended (begun g c.plus_at-size.ensures c.plus_at.ensures c.label.ensures c.claim.auto.base c.claim.ensures) (omega arith) c.put_row.ensures
+returns-then-rest-eq0 n c = λ t g.
+    grow_ended (begun g c.plus_at-size.ensures c.plus_at.ensures c.label.ensures c.claim.auto.base c.claim.ensures) (omega arith) c.put_row.ensures
 
 -- ---- the label behind it
 

@@ -29,7 +29,12 @@ pub returns-then-not-right_lengths : goal.returns-then-not-right_lengths
 returns-then-not-right_lengths c = wrong_lengths _ _ (was_no _ c.right_lengths.ensures c.if-not-right_lengths.true)
 
 pub returns-then-not-is_sound : goal.returns-then-not-is_sound
-returns-then-not-is_sound c = unsound _ _ (was_yes _ c.right_lengths.ensures c.if-not-right_lengths.false) (was_no _ c.is_sound.ensures c.if-not-is_sound.true)
+returns-then-not-is_sound c =
+    let right = was_yes _ c.right_lengths.ensures c.if-not-right_lengths.false in
+    unsound _ _ right (was_no _ c.is_sound.ensures c.if-not-is_sound.true)
 
 pub returns : goal.returns
-returns c = passes _ _ (was_yes _ c.right_lengths.ensures c.if-not-right_lengths.false) (was_yes _ c.is_sound.ensures c.if-not-is_sound.false)
+returns c =
+    let right = was_yes _ c.right_lengths.ensures c.if-not-right_lengths.false in
+    let whole = was_yes _ c.is_sound.ensures c.if-not-is_sound.false in
+    passes _ _ right whole

@@ -1,4 +1,4 @@
--- `clear` leaves 0 everywhere. The loop's invariant: the elements passed are 0. Assumes nothing.
+-- `clear` leaves 0 everywhere. Assumes nothing.
 use mathlib.Core.Path.{◌≡◌, refl, sym, ap, ◌∙◌}
 use mathlib.Core.List.{List}
 use Prim.Native.Nat.{ℕ, ◌+◌, ◌<◌}

@@ -11,17 +11,22 @@ returns-then-not-right_lengths c = edit_size _ _ (compact _) (was_no _ c.right_l
 
 pub returns-then-n-gt-MOST_MOVES : goal.returns-then-n-gt-MOST_MOVES
 unfolding key_allowed number_allowed
-returns-then-n-gt-MOST_MOVES c = edit_number _ _ (compact _) (was_yes _ c.right_lengths.ensures c.if-not-right_lengths.false) refl (lt-leb _ 65535 c.if-n-gt-MOST_MOVES.true)
+returns-then-n-gt-MOST_MOVES c =
+    let right = was_yes _ c.right_lengths.ensures c.if-not-right_lengths.false in
+    edit_number _ _ (compact _) right refl (lt-leb _ 65535 c.if-n-gt-MOST_MOVES.true)
 
 pub returns-then-not-is_sound : goal.returns-then-not-is_sound
 unfolding key_allowed number_allowed
 returns-then-not-is_sound c =
-    edit_damaged _ _ (compact _) (was_yes _ c.right_lengths.ensures c.if-not-right_lengths.false) refl (le-leb _ 65535 c.if-n-gt-MOST_MOVES.false) (was_no _ c.is_sound.ensures c.if-not-is_sound.true)
+    let right = was_yes _ c.right_lengths.ensures c.if-not-right_lengths.false in
+    edit_damaged _ _ (compact _) right refl (le-leb _ 65535 c.if-n-gt-MOST_MOVES.false) (was_no _ c.is_sound.ensures c.if-not-is_sound.true)
 
 pub compact-requires : goal.compact-requires
-compact-requires c = (was_yes _ c.is_sound.ensures c.if-not-is_sound.false)
+compact-requires c = was_yes _ c.is_sound.ensures c.if-not-is_sound.false
 
 pub returns : goal.returns
 unfolding key_allowed number_allowed
 returns c =
-    edit_sound _ _ (compact _) (was_yes _ c.right_lengths.ensures c.if-not-right_lengths.false) refl (le-leb _ 65535 c.if-n-gt-MOST_MOVES.false) (was_yes _ c.is_sound.ensures c.if-not-is_sound.false) c.compact.ensures
+    let right = was_yes _ c.right_lengths.ensures c.if-not-right_lengths.false in
+    let whole = was_yes _ c.is_sound.ensures c.if-not-is_sound.false in
+    edit_sound _ _ (compact _) right refl (le-leb _ 65535 c.if-n-gt-MOST_MOVES.false) whole c.compact.ensures

@@ -10,18 +10,27 @@ returns-then-not-right_lengths c = edit_size _ _ (delete _) (was_no _ c.right_le
 
 pub returns-then-not-is_identifier : goal.returns-then-not-is_identifier
 unfolding key_allowed
-returns-then-not-is_identifier c = edit_key _ _ (delete _) (was_yes _ c.right_lengths.ensures c.if-not-right_lengths.false) (was_no _ c.is_identifier.ensures c.if-not-is_identifier.true)
+returns-then-not-is_identifier c =
+    let right = was_yes _ c.right_lengths.ensures c.if-not-right_lengths.false in
+    edit_key _ _ (delete _) right (was_no _ c.is_identifier.ensures c.if-not-is_identifier.true)
 
 pub returns-then-not-is_sound : goal.returns-then-not-is_sound
 unfolding key_allowed number_allowed
 returns-then-not-is_sound c =
-    edit_damaged _ _ (delete _) (was_yes _ c.right_lengths.ensures c.if-not-right_lengths.false) (was_yes _ c.is_identifier.ensures c.if-not-is_identifier.false) refl (was_no _ c.is_sound.ensures c.if-not-is_sound.true)
+    let right = was_yes _ c.right_lengths.ensures c.if-not-right_lengths.false in
+    let named = was_yes _ c.is_identifier.ensures c.if-not-is_identifier.false in
+    edit_damaged _ _ (delete _) right named refl (was_no _ c.is_sound.ensures c.if-not-is_sound.true)
 
 pub delete-requires : goal.delete-requires
 delete-requires c =
-    record { whole = (was_yes _ c.is_sound.ensures c.if-not-is_sound.false); identifier = (was_yes _ c.is_identifier.ensures c.if-not-is_identifier.false) }
+    let named = was_yes _ c.is_identifier.ensures c.if-not-is_identifier.false in
+    let whole = was_yes _ c.is_sound.ensures c.if-not-is_sound.false in
+    record { whole = whole; identifier = named }
 
 pub returns : goal.returns
 unfolding key_allowed number_allowed
 returns c =
-    edit_sound _ _ (delete _) (was_yes _ c.right_lengths.ensures c.if-not-right_lengths.false) (was_yes _ c.is_identifier.ensures c.if-not-is_identifier.false) refl (was_yes _ c.is_sound.ensures c.if-not-is_sound.false) c.delete.ensures
+    let right = was_yes _ c.right_lengths.ensures c.if-not-right_lengths.false in
+    let named = was_yes _ c.is_identifier.ensures c.if-not-is_identifier.false in
+    let whole = was_yes _ c.is_sound.ensures c.if-not-is_sound.false in
+    edit_sound _ _ (delete _) right named refl whole c.delete.ensures

@@ -27,7 +27,11 @@ pub returns-then-not-right_lengths : goal.returns-then-not-right_lengths
 returns-then-not-right_lengths c = wrong_lengths _ _ _ (was_no _ c.right_lengths.ensures c.if-not-right_lengths.true)
 
 pub row-requires : goal.row-requires
-row-requires c = lengths_within _ _ (was_yes _ c.right_lengths.ensures c.if-not-right_lengths.false)
+row-requires c =
+    let right = was_yes _ c.right_lengths.ensures c.if-not-right_lengths.false in
+    lengths_within _ _ right
 
 pub returns : goal.returns
-returns c = looked_up _ _ _ (was_yes _ c.right_lengths.ensures c.if-not-right_lengths.false) c.row.ensures
+returns c =
+    let right = was_yes _ c.right_lengths.ensures c.if-not-right_lengths.false in
+    looked_up _ _ _ right c.row.ensures

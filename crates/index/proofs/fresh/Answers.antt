@@ -38,16 +38,26 @@ pub returns-then-not-right_lengths : goal.returns-then-not-right_lengths
 returns-then-not-right_lengths c = refuses _ _ (was_no _ c.right_lengths.ensures c.if-not-right_lengths.true)
 
 pub slice_set_of-base : goal.slice_set_of-base
-slice_set_of-base c = omega (arith, (lengths_within _ _ (was_yes _ c.right_lengths.ensures c.if-not-right_lengths.false)).0)
+slice_set_of-base c =
+    let right = was_yes _ c.right_lengths.ensures c.if-not-right_lengths.false in
+    omega (arith, (lengths_within _ _ right).0)
 
 pub slice_set_of-base-2 : goal.slice_set_of-base-2
-slice_set_of-base-2 c = simp length-set (omega (arith, (lengths_within _ _ (was_yes _ c.right_lengths.ensures c.if-not-right_lengths.false)).0))
+slice_set_of-base-2 c =
+    let right = was_yes _ c.right_lengths.ensures c.if-not-right_lengths.false in
+    simp length-set (omega (arith, (lengths_within _ _ right).0))
 
 pub slice_set_of-check : goal.slice_set_of-check
-slice_set_of-check c = omega (arith, lengths_same _ _ (was_yes _ c.right_lengths.ensures c.if-not-right_lengths.false), (lengths_within _ _ (was_yes _ c.right_lengths.ensures c.if-not-right_lengths.false)).0)
+slice_set_of-check c =
+    let right = was_yes _ c.right_lengths.ensures c.if-not-right_lengths.false in
+    omega (arith, lengths_same _ _ right, (lengths_within _ _ right).0)
 
 pub slice_set_of-check-2 : goal.slice_set_of-check-2
-slice_set_of-check-2 c = simp length-set (omega (arith, lengths_same _ _ (was_yes _ c.right_lengths.ensures c.if-not-right_lengths.false), (lengths_within _ _ (was_yes _ c.right_lengths.ensures c.if-not-right_lengths.false)).0))
+slice_set_of-check-2 c =
+    let right = was_yes _ c.right_lengths.ensures c.if-not-right_lengths.false in
+    simp length-set (omega (arith, lengths_same _ _ right, (lengths_within _ _ right).0))
 
 pub returns : goal.returns
-returns c = makes _ _ (was_yes _ c.right_lengths.ensures c.if-not-right_lengths.false) c.clear.ensures c.clear-2.ensures
+returns c =
+    let right = was_yes _ c.right_lengths.ensures c.if-not-right_lengths.false in
+    makes _ _ right c.clear.ensures c.clear-2.ensures

@@ -35,11 +35,15 @@ pub returns-then-not-right_lengths : goal.returns-then-not-right_lengths
 returns-then-not-right_lengths c = wrong_lengths _ _ _ (was_no _ c.right_lengths.ensures c.if-not-right_lengths.true)
 
 pub returns-then-not-is_sound : goal.returns-then-not-is_sound
-returns-then-not-is_sound c = unsound _ _ _ (was_yes _ c.right_lengths.ensures c.if-not-right_lengths.false) (was_no _ c.is_sound.ensures c.if-not-is_sound.true)
+returns-then-not-is_sound c =
+    let right = was_yes _ c.right_lengths.ensures c.if-not-right_lengths.false in
+    unsound _ _ _ right (was_no _ c.is_sound.ensures c.if-not-is_sound.true)
 
 pub list-requires : goal.list-requires
-list-requires c = (was_yes _ c.is_sound.ensures c.if-not-is_sound.false)
+list-requires c = was_yes _ c.is_sound.ensures c.if-not-is_sound.false
 
 pub returns : goal.returns
 returns c =
-    lists _ _ _ (was_yes _ c.right_lengths.ensures c.if-not-right_lengths.false) (was_yes _ c.is_sound.ensures c.if-not-is_sound.false) c.list.ensures
+    let right = was_yes _ c.right_lengths.ensures c.if-not-right_lengths.false in
+    let whole = was_yes _ c.is_sound.ensures c.if-not-is_sound.false in
+    lists _ _ _ right whole c.list.ensures

@@ -15,18 +15,15 @@ returns-then-plus_at-gt0 c = λ t e.
 pub grow-requires : goal.grow-requires
 grow-requires c = let (t, e) = c.requires in (
   t,
-  (let l = c in
-      grows e c.plus_at.ensures.is l.label.ensures.is (omega arith) (omega (arith, c.plus_at-2.ensures.is))),
+  (grows e c.plus_at.ensures.is c.label.ensures.is (omega arith) (omega (arith, c.plus_at-2.ensures.is))),
 )
 
 pub returns-then-grow : goal.returns-then-grow
 returns-then-grow c = λ t e.
     grown_done e c.plus_at.ensures.is c.label.ensures.is (omega arith) (omega (arith, c.plus_at-2.ensures.is))
-    (c.grow.ensures t (let c = c in
-    grows e c.plus_at.ensures.is c.label.ensures.is (omega arith) (omega (arith, c.plus_at-2.ensures.is)))) c.if-grow.true
+    (c.grow.ensures t (grows e c.plus_at.ensures.is c.label.ensures.is (omega arith) (omega (arith, c.plus_at-2.ensures.is)))) c.if-grow.true
 
 pub returns-else-grow : goal.returns-else-grow
 returns-else-grow c = λ t e.
     grown_none e c.plus_at.ensures.is c.label.ensures.is (omega arith) (omega (arith, c.plus_at-2.ensures.is))
-    (c.grow.ensures t (let c = c in
-    grows e c.plus_at.ensures.is c.label.ensures.is (omega arith) (omega (arith, c.plus_at-2.ensures.is)))) c.if-grow.false
+    (c.grow.ensures t (grows e c.plus_at.ensures.is c.label.ensures.is (omega arith) (omega (arith, c.plus_at-2.ensures.is)))) c.if-grow.false

@@ -11,14 +11,13 @@ pub returns-then-held-ne0 : goal.returns-then-held-ne0
 returns-then-held-ne0 c = is_present c.requires c.look_up-looked.ensures (omega arith)
 
 pub slice_bounds-extend-count : goal.slice_bounds-extend-count
-slice_bounds-extend-count c = (let l = c in met_within c.requires l.look_up-looked.ensures c.if-held-ne0.false)
+slice_bounds-extend-count c = met_within c.requires c.look_up-looked.ensures c.if-held-ne0.false
 
 pub slice_bounds-extend-start : goal.slice_bounds-extend-start
-slice_bounds-extend-start c = (let l = c in met_within c.requires l.look_up-looked.ensures c.if-held-ne0.false)
+slice_bounds-extend-start c = met_within c.requires c.look_up-looked.ensures c.if-held-ne0.false
 
 pub extend-requires : goal.extend-requires
-extend-requires c =
-    (_, extends c.requires c.look_up-looked.ensures c.if-held-ne0.false)
+extend-requires c = (_, extends c.requires c.look_up-looked.ensures c.if-held-ne0.false)
 
 pub returns : goal.returns
 returns c =

@@ -17,25 +17,27 @@ pub returns-then-base-far : goal.returns-then-base-far
 returns-then-base-far c = λ t a. past_last a (finds_placed a.extends.shown (anew_codes a) c.place-q.ensures) c.greatest.ensures (omega arith)
 
 pub slice_bounds-move_and_grow-count : goal.slice_bounds-move_and_grow-count
-slice_bounds-move_and_grow-count c = omega (arith, (let (t, a) = c.requires in (anew_codes a).some))
+slice_bounds-move_and_grow-count c = let (t, a) = c.requires in omega (arith, (anew_codes a).some)
 
 pub slice_bounds-move_and_grow-start : goal.slice_bounds-move_and_grow-start
-slice_bounds-move_and_grow-start c = omega (arith, (let (t, a) = c.requires in (anew_codes a).some))
+slice_bounds-move_and_grow-start c = let (t, a) = c.requires in omega (arith, (anew_codes a).some)
 
 pub move_and_grow-requires : goal.move_and_grow-requires
 move_and_grow-requires c =
     let (t, a) = c.requires in
-    (t, (moves a (finds_placed a.extends.shown (anew_codes a) c.place-q.ensures) c.greatest.ensures (omega arith)))
+    (t, moves a (finds_placed a.extends.shown (anew_codes a) c.place-q.ensures) c.greatest.ensures (omega arith))
 
 pub overflow_sub-result : goal.overflow_sub-result
-overflow_sub-result c = omega (arith, (let (t, a) = c.requires in (anew_codes a).some))
+overflow_sub-result c = let (t, a) = c.requires in omega (arith, (anew_codes a).some)
 
 pub returns-then-move_and_grow : goal.returns-then-move_and_grow
 returns-then-move_and_grow c = λ t a.
-    let g = c.move_and_grow.ensures t (moves a (finds_placed a.extends.shown (anew_codes a) c.place-q.ensures) c.greatest.ensures (omega arith)) in
-    all_placed a (finds_placed a.extends.shown (anew_codes a) c.place-q.ensures) c.greatest.ensures (omega arith) g c.if-move_and_grow.true
+    let q = finds_placed a.extends.shown (anew_codes a) c.place-q.ensures in
+    let g = c.move_and_grow.ensures t (moves a q c.greatest.ensures (omega arith)) in
+    all_placed a q c.greatest.ensures (omega arith) g c.if-move_and_grow.true
 
 pub returns-else-move_and_grow : goal.returns-else-move_and_grow
 returns-else-move_and_grow c = λ t a.
-    let g = c.move_and_grow.ensures t (moves a (finds_placed a.extends.shown (anew_codes a) c.place-q.ensures) c.greatest.ensures (omega arith)) in
-    not_placed a (finds_placed a.extends.shown (anew_codes a) c.place-q.ensures) c.greatest.ensures (omega arith) g c.if-move_and_grow.false
+    let q = finds_placed a.extends.shown (anew_codes a) c.place-q.ensures in
+    let g = c.move_and_grow.ensures t (moves a q c.greatest.ensures (omega arith)) in
+    not_placed a q c.greatest.ensures (omega arith) g c.if-move_and_grow.false

@@ -1,5 +1,4 @@
--- `visit` and `try_label` call each other. The measure of a visit is 40 times its depth; that of a label tried is that of a visit below
--- it, with the labels left and one more. The measure of the loop over the labels is the number of labels left. Assumes nothing.
+-- `visit` and `try_label` call each other. Assumes nothing.
 use mathlib.Core.Path.{◌∙◌}
 use Prim.Native.Nat.{◌-◌}
 use native.Mathlib.Omega.{arith}
@@ -15,11 +14,11 @@ use Rattle.listing.proofs.+try_label_visit.Goals as goal
 
 -- ---- the next label
 
-pub try_label-next-t-requires-clause-code_bound : goal.try_label-next-t-requires-clause-code_bound
-try_label-next-t-requires-clause-code_bound t c = (listed_within document01 c.requires.some c.requires.labels c.listed-code.ensures).1
+pub try_label-next-t-requires-clause-code_small : goal.try_label-next-t-requires-clause-code_small
+try_label-next-t-requires-clause-code_small t c = (listed_within document01 c.requires.some c.requires.labels c.listed-code.ensures).1
 
-pub try_label-next-t-requires-clause-base_len_bound : goal.try_label-next-t-requires-clause-base_len_bound
-try_label-next-t-requires-clause-base_len_bound t c = long _ _ c.requires.whole
+pub try_label-next-t-requires-clause-length_small : goal.try_label-next-t-requires-clause-length_small
+try_label-next-t-requires-clause-length_small t c = long _ _ c.requires.whole
 
 pub try_label-returns-then-t-eq0-clause-lists : goal.try_label-returns-then-t-eq0-clause-lists
 try_label-returns-then-t-eq0-clause-lists t c = next_none c.requires c.listed-code.ensures c.next-t.ensures c.if-t-eq0.true
@@ -49,8 +48,8 @@ visit-returns-then-depth-eq0-clause-lists t c = visits_none c.requires c.row_of-
 
 -- ---- an inner cell
 
-pub visit-first_found-left-requires-clause-base_len_bound : goal.visit-first_found-left-requires-clause-base_len_bound
-visit-first_found-left-requires-clause-base_len_bound t c = long _ _ c.requires.whole
+pub visit-first_found-left-requires-clause-length_small : goal.visit-first_found-left-requires-clause-length_small
+visit-first_found-left-requires-clause-length_small t c = long _ _ c.requires.whole
 
 pub visit-loop-left-init : goal.visit-loop-left-init
 visit-loop-left-init t c =
@@ -62,8 +61,8 @@ visit-try_label-end-requires t c =
     let inner = inner_tries c.requires c.row_of-row.ensures c.if-row-ne0.false c.if-depth-eq0.false in
     (omega (arith, c.decreases, c.loop-left.invariant.asked.labels), trying_next inner c.loop-left.invariant (omega (arith, c.loop-left-test.true)))
 
-pub visit-first_found-left-requires-in-loop-left-clause-base_len_bound : goal.visit-first_found-left-requires-in-loop-left-clause-base_len_bound
-visit-first_found-left-requires-in-loop-left-clause-base_len_bound t c = long _ _ c.requires.whole
+pub visit-first_found-left-requires-in-loop-left-clause-length_small : goal.visit-first_found-left-requires-in-loop-left-clause-length_small
+visit-first_found-left-requires-in-loop-left-clause-length_small t c = long _ _ c.requires.whole
 
 pub visit-loop-left-smaller : goal.visit-loop-left-smaller
 visit-loop-left-smaller t c =

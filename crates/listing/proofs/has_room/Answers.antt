@@ -1,5 +1,4 @@
--- `has_room` takes the line of each cell from the room, from the last cell down to the first. The measure is the number of cells left.
--- Assumes nothing.
+-- `has_room` takes the line of each cell from the room, from the last cell down to the first. Assumes nothing.
 use native.Mathlib.Omega.{arith}
 use Rattle.listing.proofs.WholeListing.{taken_all, taken_short, taken_on}
 use Rattle.listing.proofs.has_room.Goals.{In-loop-left}

@@ -1,5 +1,4 @@
--- `steps` climbs from parent to parent. The loop's invariant: the steps made, and those from the cell reached, are all of them. The
--- measure is what is left of the most steps. Assumes nothing.
+-- `steps` climbs from parent to parent. Assumes nothing.
 use Prim.Native.Nat.{◌+◌, ◌-◌}
 use native.Mathlib.Omega.{arith}
 use Rattle.listing.specs.Visiting.{DEEPEST}

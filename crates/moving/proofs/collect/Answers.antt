@@ -1,5 +1,4 @@
--- `collect` writes the codes of a cell's children behind another code. The loop's invariant: the codes written, with those that
--- check has yet to tell behind them, are all of them. The measure is the code at hand. Assumes nothing.
+-- `collect` writes the codes of a cell's children behind another code. Assumes nothing.
 use mathlib.Core.Path.{◌≡◌, refl, sym, ap, ◌∙◌}
 use mathlib.Core.Bool.{true, false, cond}
 use mathlib.Core.List.{List, ◌∷◌, append-nil}
@@ -83,7 +82,10 @@ pub loop-k-preserved : goal.loop-k-preserved
 loop-k-preserved c =
     let l = c.loop-k in
     let is = sym c.is_at.ensures in
-    elim c.if-is_at.branch [ then-is_at w ↦ rw (w.codes-is, w.n-is) (writes l.invariant (omega arith) (is ∙ w.if-is_at.true)) | else-is_at w ↦ rw (w.codes-is, w.n-is) (passes l.invariant (omega arith) (is ∙ w.if-is_at.false)) ]
+    elim c.if-is_at.branch [
+      | then-is_at w ↦ rw (w.codes-is, w.n-is) (writes l.invariant (omega arith) (is ∙ w.if-is_at.true))
+      | else-is_at w ↦ rw (w.codes-is, w.n-is) (passes l.invariant (omega arith) (is ∙ w.if-is_at.false))
+    ]
 
 pub returns : goal.returns
 returns c t h = ends c.loop-k.invariant h c.plus_at-b.ensures.is c.loop-k-test.false

@@ -1,5 +1,4 @@
--- `hand` hands the children of a cell to another. The loop's invariant: the arrays show those up to the cell b + k handed over.
--- The measure is what is left to the greatest code. Assumes nothing.
+-- `hand` hands the children of a cell to another. Assumes nothing.
 use mathlib.Core.Path.{◌≡◌, sym, ◌∙◌}
 use mathlib.Core.Bool.{true, false}
 use mathlib.Core.List.{List}
@@ -62,9 +61,8 @@ put_plus-requires c =
 
 pub loop-k-preserved-then-is_at : goal.loop-k-preserved-then-is_at
 loop-k-preserved-then-is_at c =
-    let p = c in
-    let u = p.loop-k.invariant in
-    rw c.put_plus.ensures (stores u (omega arith) (sym p.is_at.ensures ∙ p.if-is_at.true))
+    let u = c.loop-k.invariant in
+    rw c.put_plus.ensures (stores u (omega arith) (sym c.is_at.ensures ∙ c.if-is_at.true))
 
 pub loop-k-preserved : goal.loop-k-preserved
 loop-k-preserved c = passes c.loop-k.invariant (omega arith) (sym c.is_at.ensures ∙ c.if-is_at.false)

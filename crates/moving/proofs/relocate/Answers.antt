@@ -1,5 +1,4 @@
--- `relocate` moves the children of a cell to another base. The loop's invariant: the arrays show the table after the moves of the
--- children whose codes stand from i on. The measure is i. Assumes nothing.
+-- `relocate` moves the children of a cell to another base. Assumes nothing.
 use mathlib.Core.Path.{◌≡◌, refl, ◌∙◌}
 use mathlib.Core.List.{List}
 use Prim.Native.Nat.{ℕ, suc, ◌+◌, ◌-◌, ◌≤◌, ◌<◌}
@@ -65,8 +64,7 @@ bounds-codes-i c = omega (arith, c.loop-i.invariant.within)
 
 pub overflow_add-b : goal.overflow_add-b
 overflow_add-b c =
-    let p = c in
-    omega (arith, small p.loop-i.invariant (omega arith) p.requires, p.plus_at-b.ensures.small)
+    omega (arith, small c.loop-i.invariant (omega arith) c.requires, c.plus_at-b.ensures.small)
 
 pub offset_bounds-codes-i-in-loop-i : goal.offset_bounds-codes-i-in-loop-i
 offset_bounds-codes-i-in-loop-i c = omega (arith, c.loop-i.invariant.within)
@@ -76,25 +74,21 @@ bounds-codes-i-in-loop-i c = omega (arith, c.loop-i.invariant.within)
 
 pub overflow_add-q : goal.overflow_add-q
 overflow_add-q c =
-    let p = c in
-    let (t, h) = p.requires in
-    omega (arith, small p.loop-i.invariant (omega arith) (t, h), h.small)
+    let (t, h) = c.requires in
+    omega (arith, small c.loop-i.invariant (omega arith) (t, h), h.small)
 
 pub hop-requires : goal.hop-requires
 hop-requires c =
-    let p = c in
-    let (t, h) = p.requires in
-    (Hopped h _, asks p.loop-i.invariant (omega arith) p.plus_at-b.ensures.is t h)
+    let (t, h) = c.requires in
+    (Hopped h _, asks c.loop-i.invariant (omega arith) c.plus_at-b.ensures.is t h)
 
 pub loop-i-preserved : goal.loop-i-preserved
 loop-i-preserved c =
-    let p = c in
-    leaves p.loop-i.invariant (omega arith) p.plus_at-b.ensures.is c.hop.auto.base c.hop.ensures
+    leaves c.loop-i.invariant (omega arith) c.plus_at-b.ensures.is c.hop.auto.base c.hop.ensures
 
 pub put_plus-requires : goal.put_plus-requires
 put_plus-requires c = let (t, h) = c.requires in omega (arith, h.small)
 
 pub returns : goal.returns
 returns c t h =
-    let p = c in
-    rw c.put_plus.ensures (ends p.loop-i.invariant p.loop-i-test.false t h)
+    rw c.put_plus.ensures (ends c.loop-i.invariant c.loop-i-test.false t h)

@@ -1,5 +1,4 @@
--- `carry` moves byte after byte to the front. The loop's invariant: so many are there, and those behind stand where they stood. The
--- measure is the number of bytes left. Assumes nothing.
+-- `carry` moves byte after byte to the front. Assumes nothing.
 use Rattle.parts.proofs.Places.{all_carried}
 use Rattle.parts.proofs.carry.Goals as goal
 

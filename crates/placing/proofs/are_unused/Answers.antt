@@ -1,5 +1,4 @@
--- `are_unused` says whether every q + code is unused. The loop's invariant: the rest opens exactly if all do. The measure is the length
--- of the rest. Assumes nothing.
+-- `are_unused` says whether every q + code is unused. Assumes nothing.
 use mathlib.Core.Path.{◌≡◌, refl, sym, ◌∙◌}
 use mathlib.Core.Logic.{inl, inr}
 use mathlib.Core.Bool.{Bool, true, false}

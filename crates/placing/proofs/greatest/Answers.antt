@@ -1,5 +1,4 @@
--- `greatest` gives the greatest code. The loop's invariant: of the code at hand and the greatest of the rest, the greater is the
--- greatest of all. The measure is the length of the rest. Assumes nothing.
+-- `greatest` gives the greatest code. Assumes nothing.
 use mathlib.Core.Path.{◌≡◌, ap}
 use mathlib.Core.List.{List}
 use Prim.Native.Nat.{ℕ, ◌≤◌, ◌<◌, max}

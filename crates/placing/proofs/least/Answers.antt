@@ -1,5 +1,4 @@
--- `least` gives the least code. The loop's invariant: the least of the code at hand and the rest is the least of all. The measure
--- is the length of the rest. Assumes nothing.
+-- `least` gives the least code. Assumes nothing.
 use mathlib.Core.Path.{◌≡◌, refl, sym, ap, ◌∙◌}
 use mathlib.Core.List.{List, [], ◌∷◌}
 use Prim.Native.Nat.{ℕ, ◌≤◌, ◌<◌, min}
@@ -30,7 +29,8 @@ loop-rest-init c = ap least_of (sym (first_and_rest _ (omega arith)))
 pub loop-rest-preserved : goal.loop-rest-preserved
 loop-rest-preserved c =
     let l = c.loop-rest in
-    least_first l.c l.rest.now (omega arith) (elim c.if-rest-c.branch [ then-rest-c w ↦ omega arith | else-rest-c w ↦ omega arith ]) ∙ l.invariant
+    least_first l.c l.rest.now (omega arith)
+    (elim c.if-rest-c.branch [ then-rest-c w ↦ omega arith | else-rest-c w ↦ omega arith ]) ∙ l.invariant
 
 pub returns : goal.returns
 returns c =

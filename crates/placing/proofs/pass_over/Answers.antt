@@ -1,5 +1,4 @@
--- `pass_over` goes along the chain. The loop's invariant: bases may be passed over from u, and have been up to it. The measure is what
--- is left to the last cell. Assumes nothing.
+-- `pass_over` goes along the chain. Assumes nothing.
 use native.Mathlib.Omega.{arith}
 use Rattle.rules.proofs.Choices.{was_yes}
 use Rattle.placing.proofs.GreatestFirst.{linked, passes_on, passed_on}

@@ -1,5 +1,4 @@
--- `seek` walks the chain. The loop's invariant, whichever cells the chain names: the search has arrived at u. The measure is what is
--- left to the chain's end. Assumes nothing.
+-- `seek` walks the chain. Assumes nothing.
 use mathlib.Core.Path.{sym, ap, ◌∙◌}
 use native.Mathlib.Omega.{arith}
 use Rattle.rules.specs.WhatTheIndexDoes.{GREATEST}
@@ -15,25 +14,22 @@ least-low-requires c = c.requires.wanted.some
 
 pub overflow_sub-span : goal.overflow_sub-span
 overflow_sub-span c =
-    let s = c in
-    omega (arith, least_greatest s.args.codes.now s.requires.wanted.some)
+    omega (arith, least_greatest c.args.codes.now c.requires.wanted.some)
 
 pub last_stored-last-requires : goal.last_stored-last-requires
 last_stored-last-requires c = some_stored c.requires.chain
 
 pub pass_over-u-requires : goal.pass_over-u-requires
 pass_over-u-requires c =
-    let s = c in
-    let p = s.requires in
+    let p = c.requires in
     rw c.minus_at.ensures.is (passes p.chain c.last_stored-last.ensures p.small
-    (omega (arith, greatest_within s.args.codes.now GREATEST p.wanted.small)) (omega arith) p.chain.header)
+    (omega (arith, greatest_within c.args.codes.now GREATEST p.wanted.small)) (omega arith) p.chain.header)
 
 pub loop-u-init : goal.loop-u-init
 loop-u-init c =
-    let s = c in
-    let some = s.requires.wanted.some in
-    λ m ch. c.pass_over-u.ensures.arrives m _ s.args.codes.now ch c.last_stored-last.ensures some
-    (omega (arith, least_greatest s.args.codes.now some)) (rw c.minus_at.ensures.is (starts _ ch))
+    let some = c.requires.wanted.some in
+    λ m ch. c.pass_over-u.ensures.arrives m _ c.args.codes.now ch c.last_stored-last.ensures some
+    (omega (arith, least_greatest c.args.codes.now some)) (rw c.minus_at.ensures.is (starts _ ch))
 
 pub opens-requires : goal.opens-requires
 opens-requires c =
@@ -52,11 +48,10 @@ known_minus-requires c =
 
 pub pass_over-u-requires-in-loop-u : goal.pass_over-u-requires-in-loop-u
 pass_over-u-requires-in-loop-u c =
-    let s = c in
-    let p = s.requires in
+    let p = c.requires in
     let l = c.loop-u in
     rw c.known_minus.ensures.is (passes p.chain c.last_stored-last.ensures p.small
-    (omega (arith, greatest_within s.args.codes.now GREATEST p.wanted.small)) (omega arith)
+    (omega (arith, greatest_within c.args.codes.now GREATEST p.wanted.small)) (omega arith)
     ((l.invariant p.cells p.chain).on (omega arith)))
 
 pub loop-u-smaller : goal.loop-u-smaller
@@ -67,12 +62,14 @@ loop-u-smaller c =
 
 pub loop-u-preserved : goal.loop-u-preserved
 loop-u-preserved c =
-    let s = c in
-    let some = s.requires.wanted.some in
+    let some = c.requires.wanted.some in
     let l = c.last_stored-last.ensures in
-    λ m ch. c.pass_over-u-in-loop-u.ensures.arrives m _ s.args.codes.now ch l some
-    (omega (arith, least_greatest s.args.codes.now some)) (rw c.known_minus.ensures.is
-    (goes_on _ ch (c.loop-u.invariant m ch) (omega arith) (λ q h e. rw (← taken_same l) (elim c.if-low-u.branch [ then-low-u+else-opens w ↦ ap (opens _ _) (omega arith) ∙ sym w.opens.ensures ∙ w.if-opens.false | else-low-u w ↦ absurd (omega arith) ]))))
+    λ m ch. c.pass_over-u-in-loop-u.ensures.arrives m _ c.args.codes.now ch l some
+    (omega (arith, least_greatest c.args.codes.now some)) (rw c.known_minus.ensures.is
+    (goes_on _ ch (c.loop-u.invariant m ch) (omega arith) (λ q h e. rw (← taken_same l) (elim c.if-low-u.branch [
+      | then-low-u+else-opens w ↦ ap (opens _ _) (omega arith) ∙ sym w.opens.ensures ∙ w.if-opens.false
+      | else-low-u w ↦ absurd (omega arith)
+    ]))))
 
 pub returns-then-low-size : goal.returns-then-low-size
 returns-then-low-size c = λ m ch.

@@ -1,5 +1,4 @@
 -- `is_identifier` decides what an identifier is. Assumes nothing.
-use borrow.Author.Rules.{rules}
 use Rattle.rules.specs.WhatTheIndexDoes.{is_identifier}
 use Rattle.rules.proofs.Choices.{was_no, was_yes}
 use Rattle.rules.proofs.is_identifier.Goals as goal
@@ -10,6 +9,4 @@ returns-then-not-is_right_length c = rw (was_no _ c.is_right_length.ensures c.if
 
 pub returns : goal.returns
 unfolding is_identifier
-returns c =
-    let e = c.before in
-    rw (was_yes _ e.is_right_length.ensures e.if-not-is_right_length.false) c.is_coded.ensures
+returns c = rw (was_yes _ c.is_right_length.ensures c.if-not-is_right_length.false) c.is_coded.ensures

@@ -12,6 +12,6 @@ answer-requires c = let ready = c.requires.ready in record { whole = ready.whole
 
 pub returns-then-n-held : goal.returns-then-n-held
 returns-then-n-held c =
-    let (is, few) = all_got c.args.buffer.now c.args.held c.args.got c.requires.moved (rw (to_z-of_z c.ranges.got) at c.if-got-lt0.false) in
+    let is = all_got c.args.got (rw (to_z-of_z c.ranges.got) at c.if-got-lt0.false) in
     let none = rw (to_z-of_z c.ranges.got) at c.if-n-held.true in
     last_taken c.requires.ready (is ∙ ap pos (omega arith)) (omega arith) c.answer.ensures

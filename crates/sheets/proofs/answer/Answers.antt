@@ -1,5 +1,4 @@
--- `answer` reads line after line, carries it out and writes its answer to the next part of the buffer. The loop's invariant: what is still
--- to be answered comes to the whole. The measure is the length of the rest. Assumes nothing.
+-- `answer` reads line after line, carries it out and writes its answer to the next part of the buffer. Assumes nothing.
 use native.Mathlib.Omega.{arith}
 use lib.ListN.{length-take, length-drop}
 use Rattle.sheets.proofs.InTurn.{still_last, room_left, still_more}
@@ -10,8 +9,11 @@ put_answer-requires c =
     simp (length-take, length-drop) (omega (arith, room_left _ _ _ _ c.requires c.loop-rest.invariant.1 c.loop-rest-test.true c.read-line.ensures))
 
 pub loop-rest-preserved : goal.loop-rest-preserved
-loop-rest-preserved c =
-    (cc, still_more _ _ _ _ c.requires c.loop-rest.invariant.1 c.loop-rest-test.true c.read-line.ensures c.carry_out-said.ensures c.next-next.ensures c.put_answer.ensures)
+loop-rest-preserved c = (
+  cc,
+  still_more _ _ _ _ c.requires c.loop-rest.invariant.1 c.loop-rest-test.true c.read-line.ensures
+      c.carry_out-said.ensures c.next-next.ensures c.put_answer.ensures,
+)
 
 pub returns : goal.returns
 returns c = still_last _ _ _ _ c.requires c.loop-rest.invariant.1 c.loop-rest-test.false

@@ -22,4 +22,5 @@ look_up-requires c = lengths _ _ c.requires
 pub returns : goal.returns
 returns c =
     let identifier = was_yes _ c.is_identifier.ensures c.if-not-is_identifier.false in
-    looked_up _ _ c.requires _ identifier (c.found_or_absent.ensures ∙ ap found_or_absent (c.look_up.ensures.row_is (identifier_coded document01 _ identifier)))
+    let row = c.look_up.ensures.row_is (identifier_coded document01 _ identifier) in
+    looked_up _ _ c.requires _ identifier (c.found_or_absent.ensures ∙ ap found_or_absent row)

@@ -1,5 +1,4 @@
--- `put_hex` writes the last digit first. The loop's invariant: the digits left, written into what is written so far, are all of them
--- written. The measure is the number of digits left. Assumes nothing.
+-- `put_hex` writes the last digit first. Assumes nothing.
 use mathlib.Core.Path.{◌≡◌, ◌∙◌}
 use Prim.Native.Nat.{◌%◌}
 use native.Mathlib.Omega.{arith}

@@ -1,5 +1,4 @@
--- `put_hexes` writes characters one by one. The loop's invariant: what is written so far, with the rest written after it, is all of
--- it written. The measure is the number of characters left. Assumes nothing.
+-- `put_hexes` writes characters one by one. Assumes nothing.
 use mathlib.Core.Path.{◌∙◌}
 use native.Mathlib.Omega.{arith}
 use lib.ListN.{drop_of_length-le}

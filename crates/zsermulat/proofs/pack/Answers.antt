@@ -9,8 +9,7 @@ overflow_mul-result c = rw c.number.ensures (omega (arith, number_most c.args.a)
 
 pub overflow_add-result : goal.overflow_add-result
 overflow_add-result c =
-    let s = c in
-    rw (c.number.ensures, c.value.ensures) (omega (arith, number_most s.args.a, s.requires))
+    rw (c.number.ensures, c.value.ensures) (omega (arith, number_most c.args.a, c.requires))
 
 pub returns : goal.returns
 unfolding packed

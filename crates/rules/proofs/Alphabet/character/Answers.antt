@@ -1,7 +1,6 @@
 -- `Alphabet::character` is the document's. Assumes nothing.
 use mathlib.Core.Path.{refl}
 use native.Mathlib.Omega.{arith}
-use borrow.Author.Rules.{rules}
 use borrow.Author.Tests.{ne_eqb}
 use Rattle.rules.specs.WhatTheIndexDoes.{character_of}
 use Rattle.rules.specs.Ranges.{within}

@@ -1,5 +1,4 @@
--- `count` counts line feeds, block by block, and one more for a last line that has none. The loop's invariant: those counted and those of
--- the rest are the sheet's. The measure is the rest's length. Assumes nothing.
+-- `count` counts line feeds, block by block, and one more for a last line that has none. Assumes nothing.
 use mathlib.Core.Path.{◌≡◌, sym, ◌∙◌}
 use mathlib.Core.Bool.{true, false}
 use native.Mathlib.Omega.{arith}

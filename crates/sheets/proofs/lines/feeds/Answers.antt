@@ -1,5 +1,4 @@
--- `feeds` counts line feeds byte by byte. The loop's invariant: those counted and those behind are all of them. The measure is the
--- number of bytes left. Assumes nothing.
+-- `feeds` counts line feeds byte by byte. Assumes nothing.
 use native.Mathlib.Omega.{arith}
 use Rattle.sheets.proofs.Counted.{feed_here, none_here, none_behind}
 use Rattle.sheets.proofs.lines.feeds.Goals as goal

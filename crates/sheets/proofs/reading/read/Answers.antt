@@ -13,7 +13,8 @@ returns-then-operation-eq-NO_NUMBER c =
     none_read _ c.no_command-then-operation-eq-NO_NUMBER.ensures (no_operation _ c.number-operation.ensures c.if-operation-eq-NO_NUMBER.true)
 
 pub returns-then-length-eq-NO_NUMBER : goal.returns-then-length-eq-NO_NUMBER
-returns-then-length-eq-NO_NUMBER c = none_read _ c.no_command-then-length-eq-NO_NUMBER.ensures (no_length _ c.number-length.ensures c.if-length-eq-NO_NUMBER.true)
+returns-then-length-eq-NO_NUMBER c =
+    none_read _ c.no_command-then-length-eq-NO_NUMBER.ensures (no_length _ c.number-length.ensures c.if-length-eq-NO_NUMBER.true)
 
 pub returns-then-not-is_end : goal.returns-then-not-is_end
 returns-then-not-is_end c =

@@ -1,5 +1,4 @@
--- `characters` reads character after character. The loop's invariant: what is left to read comes to the whole. The measure is the number
--- of characters left. Assumes nothing.
+-- `characters` reads character after character. Assumes nothing.
 use Prim.Native.Nat.{◌<◌}
 use native.Mathlib.Omega.{arith}
 use lib.ListN.{length}

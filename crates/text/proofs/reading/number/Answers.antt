@@ -1,5 +1,4 @@
--- `number` reads digit after digit. The loop's invariant: what is left to read comes to the whole. The measure is the number of digits
--- left. Assumes nothing.
+-- `number` reads digit after digit. Assumes nothing.
 use mathlib.Core.Path.{◌≡◌, sym, ◌∙◌}
 use mathlib.Core.Bool.{true}
 use Prim.Native.Nat.{◌+◌, ◌*◌, ◌-◌, ◌<◌}
