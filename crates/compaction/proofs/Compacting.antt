@@ -153,27 +153,28 @@ going_begun n {t = t} a = record { here = t; asked = a; comes = simp (zero-add, 
 
 module _ {n made : ℕ} {base check : List ℤ} {t : Table} (g : Going n made base check t) where
   -- All are made.
-  pub going_ended : n ≤ made → Moved (compaction_steps document01 n t) made base check
+  pub going_ended : n ≡ made → Moved (compaction_steps document01 n t) n base check
   unfolding compaction_steps
   going_ended h = let z : n - made ≡ 0 = omega arith in rw (g.comes, z) (record { count_is = omega arith; left = g.asked.shown })
 
-  module _ {r : ℕ} {base' check' : List ℤ} (l : made < n) (m : Moved (compaction_step document01 g.here) r base' check') where
+  module _ (l : made < n) where
     left_is : n - made ≡ suc (n - (made + 1))
     left_is = omega arith
 
     -- The next step moves nothing.
-    pub going_stopped : r ≡ 0 → Moved (compaction_steps document01 n t) made base' check'
-    going_stopped z = rw (g.comes, left_is, steps_ended document01 (n - (made + 1)) g.here (sym m.count_is ∙ z))
+    pub going_stopped : {base' check' : List ℤ} → Moved (compaction_step document01 g.here) 0 base' check' →
+        Moved (compaction_steps document01 n t) made base' check'
+    going_stopped m = rw (g.comes, left_is, steps_ended document01 (n - (made + 1)) g.here (sym m.count_is))
         (record { count_is = omega (arith, m.count_is); left = m.left })
 
     -- It moves.
-    pub going_on : r ≢ 0 → Going n (made + 1) base' check' t
-    going_on d =
+    pub going_on : {base' check' : List ℤ} → Moved (compaction_step document01 g.here) 1 base' check' → Going n (made + 1) base' check' t
+    going_on m =
         let next = (compaction_step document01 g.here).table in
         let rest = compaction_steps document01 (n - (made + 1)) next in
         let k : made + suc rest.count ≡ made + 1 + rest.count = omega arith in
         record {
           here = next;
           asked = steps_stepped g.asked m.left;
-          comes = g.comes ∙ rw (left_is, steps_onward document01 (n - (made + 1)) g.here (λ e. d (m.count_is ∙ e)), k);
+          comes = g.comes ∙ rw (left_is, steps_onward document01 (n - (made + 1)) g.here (λ e. omega (arith, e, m.count_is)), k);
         }

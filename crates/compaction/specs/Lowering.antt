@@ -1,5 +1,5 @@
 -- What the parts of a compaction are asked, and what they leave.
-use Rattle.std.specs.Prelude.{◌≡◌, List, ℕ, ◌<◌, ℤ}
+use Rattle.std.specs.Prelude.{◌≡◌, Bool, cond, List, ℕ, ◌<◌, ℤ}
 use Rattle.rules.specs.WhatTheIndexDoes.{GREATEST, document01}
 use Rattle.rules.specs.Table.{Table, child_codes}
 use Rattle.rules.specs.DeletionAndCompaction.{Moves, compaction_step}
@@ -28,6 +28,10 @@ abbrev pub lowering : Table → Moves
 lowering t =
     let one = compaction_step document01 t in
     record { table = celled t one.table.cells; count = one.count }
+
+-- The moves of one step: 1 where it moved a node's children.
+abbrev pub move_count : Bool → ℕ
+move_count moved = cond moved 1 0
 
 -- The number of moves, and the rendering of what they leave.
 pub record Moved (moves : Moves) (r : ℕ) (base check : List ℤ) : Type 0 where

@@ -4,7 +4,7 @@
 ghost use Rattle.rules.specs.WhatTheIndexDoes.{document01};
 ghost use Rattle.rules.specs.DeletionAndCompaction.{compaction_step, compacted};
 ghost use Rattle.cells.specs.Edits.{SomeTable, EveryTable};
-ghost use Rattle.compaction.specs.Lowering.{Steps, LowersChildren, lowering, Moved};
+ghost use Rattle.compaction.specs.Lowering.{Steps, LowersChildren, lowering, Moved, move_count};
 
 use rules::{Alphabet, Cell};
 
@@ -14,34 +14,32 @@ pub fn compact(base: &mut [i32], check: &mut [i32], n: usize) -> usize
     ensures { EveryTable (Steps base.old check.old) (λ t. Moved (compacted document01 n t) result base.new check.new) }
 {
     cells::trim(base, check);
-    let mut made = 0;
-    while made < n {
-        if step(base, check) == 0 {
+    for made in 0..n {
+        if !step(base, check) {
             return made;
         }
-        made += 1;
     }
-    made
+    n
 }
 
-// One step. In every case the size then becomes the largest used cell. Gives the moves made: 1, or 0.
-pub fn step(base: &mut [i32], check: &mut [i32]) -> usize
+// One step. In every case the size then becomes the largest used cell. Gives whether it moved a node's children.
+pub fn step(base: &mut [i32], check: &mut [i32]) -> bool
     requires { SomeTable (Steps base.old check.old) }
-    ensures { EveryTable (Steps base.old check.old) (λ t. Moved (compaction_step document01 t) result base.new check.new) }
+    ensures { EveryTable (Steps base.old check.old) (λ t. Moved (compaction_step document01 t) (move_count result) base.new check.new) }
 {
-    let moves = lower(base, check);
+    let moved = lower(base, check);
     cells::trim(base, check);
-    moves
+    moved
 }
 
 // Takes the largest used cell. If that is the root, no move; otherwise its parent's children, itself among them, are looked at.
-fn lower(base: &mut [i32], check: &mut [i32]) -> usize
+fn lower(base: &mut [i32], check: &mut [i32]) -> bool
     requires { SomeTable (Steps base.old check.old) }
-    ensures { EveryTable (Steps base.old check.old) (λ t. Moved (lowering t) result base.new check.new) }
+    ensures { EveryTable (Steps base.old check.old) (λ t. Moved (lowering t) (move_count result) base.new check.new) }
 {
     let top = cells::largest_used(base, check);
     if top.0 == 1 {
-        return 0;
+        return false;
     }
     let s = numbers::plus_at(check, top.0);
     let mut codes = [0; Alphabet::GREATEST + 1];
@@ -50,14 +48,14 @@ fn lower(base: &mut [i32], check: &mut [i32]) -> usize
 }
 
 // The children of s, whose codes these are, move to their placed base if that is smaller than the base held.
-fn lower_children(base: &mut [i32], check: &mut [i32], s: Cell, codes: &[usize]) -> usize
+fn lower_children(base: &mut [i32], check: &mut [i32], s: Cell, codes: &[usize]) -> bool
     requires { SomeTable (LowersChildren base.old check.old s.0 codes.now) }
-    ensures { EveryTable (LowersChildren base.old check.old s.0 codes.now) (λ t. Moved (lowering t) result base.new check.new) }
+    ensures { EveryTable (LowersChildren base.old check.old s.0 codes.now) (λ t. Moved (lowering t) (move_count result) base.new check.new) }
 {
     let q = placing::place(base, check, codes);
     if numbers::plus_at(base, s.0) <= q {
-        return 0;
+        return false;
     }
     moving::relocate(base, check, s, q, codes);
-    1
+    true
 }

@@ -2,12 +2,7 @@
 use Rattle.compaction.proofs.Compacting.{lowered_trimmed}
 use Rattle.compaction.proofs.step.Goals as goal
 
-pub trim-requires : goal.trim-requires
-trim-requires c =
-    let (t, a) = c.requires in
-    (_, (c.lower-moves.ensures t a).left)
-
 pub returns : goal.returns
 returns c = λ t a.
-    let m = c.lower-moves.ensures t a in
+    let m = c.lower-moved.ensures t a in
     lowered_trimmed t m (c.trim.ensures _ m.left)
