@@ -1,5 +1,6 @@
 -- The alphabet: its two functions undo each other. Proved once over the alphabet's size, by a test that is computed at each
 -- character and each code. Assumes nothing.
+use Rattle.std.specs.Prelude.{Some, None}
 use mathlib.Core.Path.{◌≡◌, refl}
 use mathlib.Core.Logic.{⊎_elim}
 use mathlib.Core.Bool.{Bool, true, ◌&&◌, ◌||◌}
@@ -11,6 +12,7 @@ use Rattle.numbers.proofs.Cases.{lt_or_ge}
 use Rattle.rules.specs.Ranges.{within, each_to}
 use Rattle.rules.specs.WhatTheIndexDoes.{code_of, character_of, Code, Profile, document01, RoundTrip}
 use Rattle.rules.proofs.Choices.{both}
+use Rattle.rules.proofs.Options.{is_number}
 use Rattle.rules.proofs.Ranges.{above, each_to_lem}
 
 -- A character that has a code: the code is a label's, and leads back.
@@ -54,5 +56,8 @@ pub document01_round_trip : RoundTrip document01
 unfolding code_of character_of within each_to
 document01_round_trip = round_trip document01 123 past_letters refl refl
 
-pub is_code : {b r : ℕ} → r ≡ code_of b → Code b r
-is_code {b} e = record { is = e; small = rw e (document01_round_trip.range b) }
+pub is_code : {b v : ℕ} → 1 ≤ v → code_of b ≡ v → Code b (Some v)
+is_code {b = b} {v = v} h e = record { is = rw (e, is_number v h); small = omega (arith, e, document01_round_trip.range b) }
+
+pub is_none : {b : ℕ} → code_of b ≡ 0 → Code b None
+is_none e = record { is = rw e; small = tt }

@@ -6,10 +6,10 @@ use Prim.Native.Nat.{ℕ, zero, suc, ◌+◌, ◌*◌, ◌/◌}
 use native.Mathlib.Omega.{arith}
 use lib.ListN.{length, take, drop, length-append, take-append-drop}
 use lib.Dec.{ltb}
-use Rattle.rules.specs.declared.Answer.{Answer}
 use Rattle.rules.specs.Listing.{Entry, hex, hexes, line_of, lines_of}
 use Rattle.rules.specs.ARun.{nibble, digits, answer_bytes}
 use Rattle.rules.proofs.Choices.{both}
+use Rattle.rules.specs.Answers.{Answer}
 
 -- ---- how long
 

@@ -6,3 +6,4 @@ pub mod Texts
 pub mod Digits
 pub mod Codes
 pub mod Walks
+pub mod Options

@@ -1,14 +1,13 @@
 -- Document 01, 'A run': a sheet's lines, each one's command or LINE, and the answers in turn.
-use Rattle.std.specs.Prelude.{ℕ, zero, suc, ◌+◌, ◌*◌, ◌-◌, Bool, true, cond, ◌&&◌, List, [], ◌∷◌, ◌++◌, length, take, drop, ltb, eqb}
+use Rattle.std.specs.Prelude.{ℕ, zero, suc, ◌+◌, ◌*◌, ◌-◌, Bool, true, cond, ◌&&◌, List, [], ◌∷◌, ◌++◌, length, take, drop, ltb, eqb, Err}
 use Rattle.std.proofs.Math.Option.{Option, none, some}
-use Rattle.rules.specs.declared.Answer.{Answer}
-use Rattle.rules.specs.declared.Answer.TheVariants.{Line}
 use Rattle.rules.specs.Ranges.{within}
-use Rattle.rules.specs.Answers.{number, value}
+use Rattle.rules.specs.Answers.{Answer, number, value}
 use Rattle.rules.specs.WhatTheIndexDoes.{Profile}
 use Rattle.rules.specs.Table.{Table}
 use Rattle.rules.specs.Listing.{LF, hex}
 use Rattle.rules.specs.Commands.{Command, insert, delete, find, compact, Outcome, answered}
+use Rattle.rules.specs.declared.Refusal.TheVariants.{Line}
 
 -- ---- lines
 
@@ -79,7 +78,7 @@ pub record Answered : Type 0 where
 module _ (P : Profile) (last : ℕ) where
   -- A line is refused as LINE, or answered as the single call would answer on a table that passes the audit.
   unfoldable pub answered_line : Table → Option Command → Outcome
-  answered_line t none = record { answer = Line; table = t }
+  answered_line t none = record { answer = Err Line; table = t }
   answered_line t (some command) = answered P last t true command
 
   -- The lines are answered in turn.

@@ -1,10 +1,8 @@
 -- The eight calls: for each, one total function from what is lent and given at entry to the answer and every element and byte
 -- at exit, refusals included. The public contracts cite these, at document 01's kind of table and profile.
-use Rattle.std.specs.Prelude.{ℕ, ◌*◌, ◌-◌, cond, List, length, ℤ, leb}
+use Rattle.std.specs.Prelude.{ℕ, ◌*◌, ◌-◌, cond, List, length, ℤ, leb, Err}
 use Rattle.std.proofs.lemmas.List.Edits.{sets}
-use Rattle.rules.specs.declared.Answer.{Answer}
-use Rattle.rules.specs.declared.Answer.TheVariants.{Done, Size, Key, Damaged, NoSpace}
-use Rattle.rules.specs.Answers.{is_done, found_or_absent}
+use Rattle.rules.specs.Answers.{Answer, counted, is_done, found_or_absent}
 use Rattle.rules.specs.WhatTheIndexDoes.{Profile, is_identifier, right_lengths, last_cell}
 use Rattle.rules.specs.ASoundTable.{fresh_base, fresh_check}
 use Rattle.rules.specs.Finding.{row_found}
@@ -13,6 +11,7 @@ use Rattle.rules.specs.Table.{Table}
 use Rattle.rules.specs.Commands.{Command, insert, delete, find, compact, Outcome, carried_out, answered}
 use Rattle.rules.specs.Rendering.{Kind, render_base, render_check, read_cells, read_table}
 use Rattle.rules.specs.ARun.{sheet_lines, answered_lines}
+use Rattle.rules.specs.declared.Refusal.TheVariants.{Size, Key, Damaged, NoSpace}
 
 -- The answer, and the two arrays at exit.
 pub record Edited : Type 0 where
@@ -45,7 +44,7 @@ abbrev pub ended : Kind → Profile → ℕ → Table → List ℕ → List ℕ 
 ended K P k t sheet out =
     let end = answered_lines P (k - 1) t (sheet_lines sheet) in
     record {
-      answer = Done (length (sheet_lines sheet));
+      answer = counted (length (sheet_lines sheet));
       base = render_base k end.table;
       check = render_check K P k end.table;
       out = sets out 0 end.bytes;
@@ -59,21 +58,21 @@ module _ (P : Profile) (base check : List ℤ) where
   -- fresh: SIZE, or done.
   unfoldable pub fresh_call : Edited
   fresh_call =
-      let done : Edited = record { answer = Done 0; base = fresh_base (length base); check = fresh_check P (length base) } in
-      cond (right_lengths base check) done (unchanged base check Size)
+      let done : Edited = record { answer = counted 0; base = fresh_base (length base); check = fresh_check P (length base) } in
+      cond (right_lengths base check) done (unchanged base check (Err Size))
 
   -- find: SIZE, KEY, then the walk; no audit.
   unfoldable pub find_call : List ℕ → Answer
   find_call key =
-      let keyed = cond (is_identifier P key) (found_or_absent (row_found base check P key)) Key in
-      cond (right_lengths base check) keyed Size
+      let keyed = cond (is_identifier P key) (found_or_absent (row_found base check P key)) (Err Key) in
+      cond (right_lengths base check) keyed (Err Size)
 
   -- On a table known to be sound, the listing: NO SPACE, or done with the bytes written; the bytes past them stay.
   unfoldable pub sound_list : List ℕ → Written
   sound_list out =
       let bytes = listing P (read_cells base check) in
-      let done : Written = record { answer = Done (length bytes); out = sets out 0 bytes } in
-      cond (leb (length bytes) (length out)) done (unwritten out NoSpace)
+      let done : Written = record { answer = counted (length bytes); out = sets out 0 bytes } in
+      cond (leb (length bytes) (length out)) done (unwritten out (Err NoSpace))
 
 module _ (K : Kind) (P : Profile) (base check : List ℤ) where
   -- What an outcome leaves in the arrays: where it is done, its table's rendering.
@@ -91,7 +90,7 @@ module _ (K : Kind) (P : Profile) (base check : List ℤ) where
   unfoldable pub edit_call : Command → Edited
   edit_call command =
       let audited = stored (answered P (last_cell base) (read_table base check) (K.audit P base check) command) in
-      cond (right_lengths base check) audited (unchanged base check Size)
+      cond (right_lengths base check) audited (unchanged base check (Err Size))
 
   -- insert is given an identifier and a row.
   abbrev pub insert_call : List ℕ → ℕ → Edited
@@ -115,23 +114,23 @@ module _ (K : Kind) (P : Profile) (base check : List ℤ) where
   -- audit: SIZE, DAMAGED, or done.
   unfoldable pub audit_call : Answer
   audit_call =
-      let audited = cond (K.audit P base check) (Done 0) Damaged in
-      cond (right_lengths base check) audited Size
+      let audited = cond (K.audit P base check) (counted 0) (Err Damaged) in
+      cond (right_lengths base check) audited (Err Size)
 
   -- list: SIZE, DAMAGED, then NO SPACE or done.
   unfoldable pub list_call : List ℕ → Written
   list_call out =
-      let audited = cond (K.audit P base check) (sound_list P base check out) (unwritten out Damaged) in
-      cond (right_lengths base check) audited (unwritten out Size)
+      let audited = cond (K.audit P base check) (sound_list P base check out) (unwritten out (Err Damaged)) in
+      cond (right_lengths base check) audited (unwritten out (Err Size))
 
   -- On a table known to be sound, a run: NO SPACE for the whole; or the lines in turn, done with the number of them.
   unfoldable pub sound_run : List ℕ → List ℕ → Ran
   sound_run sheet out =
       let done = ended K P (length base) (read_table base check) sheet out in
-      cond (leb (11 * length (sheet_lines sheet)) (length out)) done (untouched base check out NoSpace)
+      cond (leb (11 * length (sheet_lines sheet)) (length out)) done (untouched base check out (Err NoSpace))
 
   -- run: SIZE, DAMAGED, then NO SPACE or done.
   unfoldable pub run_call : List ℕ → List ℕ → Ran
   run_call sheet out =
-      let audited = cond (K.audit P base check) (sound_run sheet out) (untouched base check out Damaged) in
-      cond (right_lengths base check) audited (untouched base check out Size)
+      let audited = cond (K.audit P base check) (sound_run sheet out) (untouched base check out (Err Damaged)) in
+      cond (right_lengths base check) audited (untouched base check out (Err Size))

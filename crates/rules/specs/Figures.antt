@@ -1,10 +1,8 @@
 -- Document 01, 'Figures to reproduce': P1 to P12 in one table, under one theorem, by computation.
-use Rattle.std.specs.Prelude.{◌≡◌, refl, ℕ, Bool, not, ◌&&◌, ◌||◌, List, [], ◌∷◌, ◌++◌, map, replicate, set, ℤ, leb, eqb}
+use Rattle.std.specs.Prelude.{◌≡◌, refl, ℕ, Bool, not, ◌&&◌, ◌||◌, List, [], ◌∷◌, ◌++◌, map, replicate, set, ℤ, leb, eqb, Err}
 use Rattle.numbers.specs.Stored.{positive, negative}
-use Rattle.rules.specs.declared.Answer.{Answer}
-use Rattle.rules.specs.declared.Answer.TheVariants.{Done, Damaged, NoRoom}
 use Rattle.rules.specs.Ranges.{within, each_to, some_to, first_from}
-use Rattle.rules.specs.Answers.{found}
+use Rattle.rules.specs.Answers.{Answer, counted, found}
 use Rattle.rules.specs.WhatTheIndexDoes.{document01, code_of, character_of, coded, is_identifier, labels, is_row, right_lengths}
 use Rattle.rules.specs.Table.{update, used, largest_used, next, walk, node, lookup, child_codes, childless}
 use Rattle.rules.specs.ASoundTable.{holds, used_at, free_at, next_free_at, has_child, code_at, home, others, rule1, rule2, rule3, rule4, rule5, rule6, rule7, sound, fresh_base, fresh_check}
@@ -18,6 +16,7 @@ use Rattle.rules.specs.Rendering.{Kind, chained, next_free, base_holds, base_of,
 use Rattle.rules.specs.ARun.{joined, sheet_lines, nibble, digits, read_on, field, pairs, command_of, parsed, answer_bytes, answered_line, answered_lines}
 use Rattle.rules.specs.PlainMethod.{plain_rule2, plain_rule3, plain_sound}
 use Rattle.rules.specs.Calls.{Ran, fresh_call, find_call, stored, edit_call, command_call, audit_call, sound_list, list_call, sound_run, run_call}
+use Rattle.rules.specs.declared.Refusal.TheVariants.{Damaged, NoRoom}
 
 -- ---- how the figures are written
 
@@ -69,9 +68,9 @@ given K list base check out =
     record { answer = w.answer; base = base; check = check; out = w.out }
 given K (run sheet) base check out = run_call K document01 base check sheet out
 given K (place taken size codes) base check out =
-    record { answer = Done (placed taken size codes); base = base; check = check; out = out }
+    record { answer = counted (placed taken size codes); base = base; check = check; out = out }
 given K (seek taken size codes) base check out =
-    record { answer = Done (sought (λ t. not (taken t)) taken size codes); base = base; check = check; out = out }
+    record { answer = counted (sought (λ t. not (taken t)) taken size codes); base = base; check = check; out = out }
 
 -- A figure that lends no buffer.
 abbrev pub figure : List ℤ → List ℤ → Step → Answer → List ℤ → List ℤ → Figure
@@ -85,7 +84,7 @@ figure base check step answer base' check' = record {
 
 -- A figure of a search, with the base that it gives.
 abbrev pub search : Step → ℕ → Figure
-search step q = figure [] [] step (Done q) [] []
+search step q = figure [] [] step (counted q) [] []
 
 -- The number n.
 abbrev p : ℕ → ℤ
@@ -169,13 +168,13 @@ taken12 t = taken11 t && not (within 18 19 t || within 21 22 t)
 pub figures : List Figure
 figures =
     -- P1: fresh, whatever the old contents
-    figure (replicate 9 (p 7)) (replicate 9 (m 7)) fresh (Done 0) base1 check1
+    figure (replicate 9 (p 7)) (replicate 9 (m 7)) fresh (counted 0) base1 check1
     -- P2: P1, insert ab row 7
-    ∷ figure base1 check1 (command (insert ab 7)) (Done 0) base2 check2
+    ∷ figure base1 check1 (command (insert ab 7)) (counted 0) base2 check2
     -- P3: P2, insert a row 9
-    ∷ figure base2 check2 (command (insert a 9)) (Done 1) base3 check3
+    ∷ figure base2 check2 (command (insert a 9)) (counted 1) base3 check3
     -- P4: P3, compact 5
-    ∷ figure base3 check3 (command (compact 5)) (Done 1) base4 check4
+    ∷ figure base3 check3 (command (compact 5)) (counted 1) base4 check4
     -- P5: P3, delete ab
     ∷ figure base3 check3 (command (delete ab)) (found 7) base5 check5
     -- P6: P5, delete a
@@ -186,18 +185,18 @@ figures =
       check = check3;
       out = replicate 30 255;
       step = list;
-      shown = record { answer = Done 28; base = base3; check = check3; out = listing7 ++ replicate 2 255 };
+      shown = record { answer = counted 28; base = base3; check = check3; out = listing7 ++ replicate 2 255 };
     }
     -- P8: fresh of length 4, insert a is done; of length 3, NO ROOM
-    ∷ figure (fresh_base 4) (fresh_check document01 4) (command (insert a 9)) (Done 0) (p 3 ∷ p 1 ∷ m 9 ∷ p 1 ∷ []) (m 4 ∷ p 1 ∷ p 3 ∷ p 1 ∷ [])
-    ∷ figure (fresh_base 3) (fresh_check document01 3) (command (insert a 9)) NoRoom (fresh_base 3) (fresh_check document01 3)
+    ∷ figure (fresh_base 4) (fresh_check document01 4) (command (insert a 9)) (counted 0) (p 3 ∷ p 1 ∷ m 9 ∷ p 1 ∷ []) (m 4 ∷ p 1 ∷ p 3 ∷ p 1 ∷ [])
+    ∷ figure (fresh_base 3) (fresh_check document01 3) (command (insert a 9)) (Err NoRoom) (fresh_base 3) (fresh_check document01 3)
     -- P9: fresh of length 4, insert b or ab is NO ROOM; of length 5, both are done
-    ∷ figure (fresh_base 4) (fresh_check document01 4) (command (insert b 9)) NoRoom (fresh_base 4) (fresh_check document01 4)
-    ∷ figure (fresh_base 4) (fresh_check document01 4) (command (insert ab 9)) NoRoom (fresh_base 4) (fresh_check document01 4)
-    ∷ figure (fresh_base 5) (fresh_check document01 5) (command (insert b 9)) (Done 0) (p 4 ∷ p 1 ∷ m 9 ∷ p 0 ∷ p 1 ∷ []) (m 3 ∷ p 1 ∷ p 4 ∷ m 5 ∷ p 1 ∷ [])
-    ∷ figure (fresh_base 5) (fresh_check document01 5) (command (insert ab 9)) (Done 0) (p 4 ∷ p 1 ∷ m 9 ∷ p 1 ∷ p 1 ∷ []) (m 5 ∷ p 1 ∷ p 4 ∷ p 1 ∷ p 3 ∷ [])
+    ∷ figure (fresh_base 4) (fresh_check document01 4) (command (insert b 9)) (Err NoRoom) (fresh_base 4) (fresh_check document01 4)
+    ∷ figure (fresh_base 4) (fresh_check document01 4) (command (insert ab 9)) (Err NoRoom) (fresh_base 4) (fresh_check document01 4)
+    ∷ figure (fresh_base 5) (fresh_check document01 5) (command (insert b 9)) (counted 0) (p 4 ∷ p 1 ∷ m 9 ∷ p 0 ∷ p 1 ∷ []) (m 3 ∷ p 1 ∷ p 4 ∷ m 5 ∷ p 1 ∷ [])
+    ∷ figure (fresh_base 5) (fresh_check document01 5) (command (insert ab 9)) (counted 0) (p 4 ∷ p 1 ∷ m 9 ∷ p 1 ∷ p 1 ∷ []) (m 5 ∷ p 1 ∷ p 4 ∷ p 1 ∷ p 3 ∷ [])
     -- P10: P3 with check[4] = -8 is unsound
-    ∷ figure base3 (set check3 4 (m 8)) audit Damaged base3 (set check3 4 (m 8))
+    ∷ figure base3 (set check3 4 (m 8)) audit (Err Damaged) base3 (set check3 4 (m 8))
     -- P11: codes 3, 4, 5: base 28
     ∷ search (place taken11 39 (3 ∷ 4 ∷ 5 ∷ [])) 28
     ∷ search (seek taken11 39 (3 ∷ 4 ∷ 5 ∷ [])) 28

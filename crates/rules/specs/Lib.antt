@@ -14,6 +14,8 @@ pub mod Table
 pub mod Commands
 pub mod Answers
 pub mod Ranges
+-- What the program hands on where a definition gives a number of which 0 is none.
+pub mod Options
 -- The two arrays: how a table stands in them, the eight calls, the form of a call's promise, and the plain method of demand 3.
 pub mod Rendering
 pub mod Calls

@@ -1,8 +1,8 @@
 -- The form of a promise: a field for each thing that is determined, each an equation with a total function of what was lent and
 -- given at entry. The public calls promise one of these.
 use Rattle.std.specs.Prelude.{◌≡◌, List, ℕ, ℤ}
-use Rattle.rules.specs.declared.Answer.{Answer}
 use Rattle.rules.specs.Calls.{Edited, Written, Ran}
+use Rattle.rules.specs.Answers.{Answer}
 
 -- A call that reads the arrays: its answer r is a.
 pub record Answers (a r : Answer) : Type 0 where

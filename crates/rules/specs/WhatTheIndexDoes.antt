@@ -1,5 +1,8 @@
 -- Document 01, 'What the index does': identifiers, rows, arrays and label codes.
-use Rattle.std.specs.Prelude.{ℕ, ◌+◌, ◌-◌, ◌≤◌, ◌≡◌, Bool, true, cond, ◌&&◌, List, [], ◌∷◌, ◌++◌, map, length, ℤ, leb, eqb}
+use Rattle.std.specs.Prelude.{ℕ, ◌+◌, ◌-◌, ◌≤◌, ◌≡◌, Bool, true, false, Option, IfSome, cond, ◌&&◌, List, [], ◌∷◌, ◌++◌, map, length, ℤ, leb, eqb}
+use Rattle.rules.specs.declared.Refusal.{Refusal}
+use Rattle.rules.specs.declared.Refusal.TheVariants.{Size}
+use Rattle.rules.specs.Options.{some_number}
 use Rattle.rules.specs.Ranges.{within}
 
 -- ---- the label codes belong to the alphabet
@@ -22,10 +25,10 @@ unfoldable pub character_of : ℕ → ℕ
 character_of c =
     cond (within 2 27 c) (c + 95) (cond (within 28 37 c) (c + 20) (cond (eqb c GREATEST) 45 0))
 
--- What `Alphabet::code` gives: the code, not past the greatest.
-pub record Code (b r : ℕ) : Type 0 where
-  pub is : r ≡ code_of b
-  pub small : r ≤ GREATEST
+-- What `Alphabet::code` gives: the code, if there is one, not past the greatest.
+pub record Code (b : ℕ) (r : Option ℕ) : Type 0 where
+  pub is : r ≡ some_number (code_of b)
+  pub small : IfSome r (λ c. c ≤ GREATEST)
 
 -- What differs between one set of identifiers and another.
 pub record Profile : Type 0 where
@@ -73,6 +76,17 @@ is_row n = within 1 1000000 n
 -- Arrays: equal lengths, 2 to 65,536 elements.
 unfoldable pub right_lengths : List ℤ → List ℤ → Bool
 right_lengths base check = eqb (length base) (length check) && within 2 65536 (length base)
+
+-- What is lent in the right lengths: these two arrays.
+pub record Lent (base check base' check' : List ℤ) : Type 0 where
+  pub right : right_lengths base check ≡ true
+  pub base_is : base' ≡ base
+  pub check_is : check' ≡ check
+
+-- SIZE: the lengths are wrong.
+pub record Unfit (base check : List ℤ) (r : Refusal) : Type 0 where
+  pub wrong : right_lengths base check ≡ false
+  pub refused : r ≡ Size
 
 -- Cells are numbered from 1, so the last cell is length minus 1.
 abbrev pub last_cell : List ℤ → ℕ

@@ -1,14 +1,16 @@
-// Document 01's types (rows and cells, kept apart, the alphabet of label codes, what a call answers) and the tests of lengths,
-// identifiers and rows that the calls ask. What the document says of them stands in specs/, a file for each of its sections.
+// Document 01's types (rows and cells, kept apart, the arrays that can hold a table, the alphabet of label codes, what a call answers) and
+// the tests of lengths, identifiers and rows that the calls ask. What the document says of them stands in specs/, a file for each of its
+// sections.
 #![tactic(auto)]
 
-ghost use Rattle.std.specs.Prelude.{◌≡◌, length};
+ghost use Rattle.std.specs.Prelude.{◌≡◌, ◌≤◌, length, IfOk, IfErr};
 ghost use Rattle.rules.specs.Ranges.{within};
-ghost use Rattle.rules.specs.WhatTheIndexDoes.{Code, character_of, document01, right_lengths, is_identifier, coded, is_row};
+ghost use Rattle.rules.specs.WhatTheIndexDoes.{Code, Lent, Unfit, character_of, document01, right_lengths, is_identifier, coded, is_row};
+ghost use Rattle.rules.specs.Options.{some_number};
 ghost use Rattle.rules.specs.Answers.{number, value};
 
 // A row's number. It is no cell: nothing can be looked up in the arrays by it.
-#[derive(Clone, Copy)]
+#[derive(Clone, Copy, PartialEq, Eq)]
 pub struct Row(pub u32);
 
 impl Row {
@@ -16,7 +18,7 @@ impl Row {
 }
 
 // A cell's number. It is no row: no call answers with one.
-#[derive(Clone, Copy)]
+#[derive(Clone, Copy, PartialEq, Eq)]
 pub struct Cell(pub usize);
 
 // The label codes.
@@ -28,27 +30,27 @@ impl Alphabet {
 
     pub const GREATEST: usize = 38;
 
-    // The code of a character, or 0 where it has none.
-    pub fn code(ch: u8) -> usize
+    // The code of a character, if it has one.
+    pub fn code(ch: u8) -> Option<usize>
         ensures { Code ch result }
     {
         match ch {
-            b'a'..=b'z' => ch as usize - 95,
-            b'0'..=b'9' => ch as usize - 20,
-            b'-' => Alphabet::GREATEST,
-            _ => 0,
+            b'a'..=b'z' => Some(ch as usize - 95),
+            b'0'..=b'9' => Some(ch as usize - 20),
+            b'-' => Some(Alphabet::GREATEST),
+            _ => None,
         }
     }
 
-    // The character of a code, or 0 where it has none.
-    pub fn character(code: usize) -> u8
-        ensures { result ≡ character_of code }
+    // The character of a code, if it has one: the end mark has none.
+    pub fn character(code: usize) -> Option<u8>
+        ensures { result ≡ some_number (character_of code) }
     {
         match code {
-            2..=27 => (code + 95) as u8,
-            28..=37 => (code + 20) as u8,
-            Alphabet::GREATEST => b'-',
-            _ => 0,
+            2..=27 => Some((code + 95) as u8),
+            28..=37 => Some((code + 20) as u8),
+            Alphabet::GREATEST => Some(b'-'),
+            _ => None,
         }
     }
 }
@@ -69,68 +71,78 @@ pub fn right_lengths(base: &[i32], check: &[i32]) -> bool
     if base.len() != check.len() {
         return false;
     }
-    if base.len() < 2 {
-        return false;
+    2 <= base.len() && base.len() <= LONGEST
+}
+
+// Two arrays that can hold a table, of any contents.
+#[derive(Clone, Copy)]
+pub struct Arrays<'a> {
+    pub base: &'a [i32],
+    pub check: &'a [i32],
+    ghost same_length: { length base.now ≡ length check.now },
+    ghost enough: { 2 ≤ length base.now },
+    ghost few: { length base.now ≤ 65536 },
+}
+
+impl<'a> Arrays<'a> {
+    // The arrays as they are lent, or SIZE.
+    pub fn lent(base: &'a [i32], check: &'a [i32]) -> Result<Arrays<'a>, Refusal>
+        ensures lent { IfOk result (λ arrays. Lent base.now check.now arrays.base.now arrays.check.now) }
+        ensures refused { IfErr result (Unfit base.now check.now) }
+    {
+        if right_lengths(base, check) {
+            Ok(Arrays { base, check })
+        } else {
+            Err(Refusal::Size)
+        }
     }
-    base.len() <= LONGEST
 }
 
 // Whether it is an identifier: 1 to 32 characters, each with a code.
 pub fn is_identifier(key: &[u8]) -> bool
     ensures { result ≡ is_identifier document01 key.now }
 {
-    if !is_right_length(key) {
-        return false;
-    }
-    is_coded(key)
+    is_right_length(key) && is_coded(key)
 }
 
 // Whether it has as many characters as an identifier: 1 to 32.
 pub fn is_right_length(key: &[u8]) -> bool
     ensures { result ≡ within 1 document01.limit (length key.now) }
 {
-    if key.len() == 0 {
-        return false;
-    }
-    key.len() <= LIMIT
+    1 <= key.len() && key.len() <= LIMIT
 }
 
 // Whether each character has a code.
 pub fn is_coded(key: &[u8]) -> bool
     ensures { result ≡ coded document01 key.now }
 {
-    let mut rest = key;
-    while 0 < rest.len() {
-        if Alphabet::code(rest[0]) == 0 {
-            return false;
-        }
-        rest = &rest[1..];
-    }
-    true
+    key.iter().all(|ch| Alphabet::code(*ch).is_some())
 }
 
 // Whether n is a row's number: 1 to 1,000,000.
 pub fn is_row(n: usize) -> bool
     ensures { result ≡ is_row n }
 {
-    if n == 0 {
-        return false;
-    }
-    n <= Row::GREATEST
+    1 <= n && n <= Row::GREATEST
 }
 
-// What a call answers.
-#[derive(Clone, Copy)]
-pub enum Answer {
-    // Done, with a count: children that changed cell, moves, bytes or lines; 0 where the document names no value.
-    Done(usize),
-    // Done, with a row: the one found, or the one removed.
-    Found(Row),
+// What a call answers where it is done.
+#[derive(Clone, Copy, PartialEq, Eq)]
+pub enum Done {
+    // A count: children that changed cell, moves, bytes or lines; 0 where the document names no value.
+    Count(usize),
+    // A row: the one found, or the one removed.
+    Row(Row),
+}
+
+// Why a call is refused.
+#[derive(Clone, Copy, PartialEq, Eq)]
+pub enum Refusal {
     Size,
     Key,
     Number,
     Damaged,
-    // Refused, with the row held.
+    // With the row held.
     Present(Row),
     Absent,
     NoRoom,
@@ -138,42 +150,35 @@ pub enum Answer {
     Line,
 }
 
-impl Answer {
-    // The answer's number.
-    pub fn number(self) -> u32
-        ensures { result ≡ number self }
-    {
-        match self {
-            Answer::Done(_) => 0,
-            Answer::Found(_) => 0,
-            Answer::Size => 1,
-            Answer::Key => 2,
-            Answer::Number => 3,
-            Answer::Damaged => 4,
-            Answer::Present(_) => 5,
-            Answer::Absent => 6,
-            Answer::NoRoom => 7,
-            Answer::NoSpace => 8,
-            Answer::Line => 9,
-        }
-    }
+// What a call answers.
+pub type Answer = Result<Done, Refusal>;
 
-    // The answer's value.
-    pub fn value(self) -> usize
-        ensures { result ≡ value self }
-    {
-        match self {
-            Answer::Done(n) => n,
-            Answer::Found(row) => row.0 as usize,
-            Answer::Present(row) => row.0 as usize,
-            Answer::Size => 0,
-            Answer::Key => 0,
-            Answer::Number => 0,
-            Answer::Damaged => 0,
-            Answer::Absent => 0,
-            Answer::NoRoom => 0,
-            Answer::NoSpace => 0,
-            Answer::Line => 0,
-        }
+// The answer's number.
+pub fn number(answer: Answer) -> u32
+    ensures { result ≡ number answer }
+{
+    match answer {
+        Ok(_) => 0,
+        Err(Refusal::Size) => 1,
+        Err(Refusal::Key) => 2,
+        Err(Refusal::Number) => 3,
+        Err(Refusal::Damaged) => 4,
+        Err(Refusal::Present(_)) => 5,
+        Err(Refusal::Absent) => 6,
+        Err(Refusal::NoRoom) => 7,
+        Err(Refusal::NoSpace) => 8,
+        Err(Refusal::Line) => 9,
+    }
+}
+
+// The answer's value.
+pub fn value(answer: Answer) -> usize
+    ensures { result ≡ value answer }
+{
+    match answer {
+        Ok(Done::Count(n)) => n,
+        Ok(Done::Row(row)) => row.0 as usize,
+        Err(Refusal::Present(row)) => row.0 as usize,
+        Err(_) => 0,
     }
 }

@@ -3,10 +3,8 @@
 use mathlib.Core.Path.{◌≡◌, refl}
 use mathlib.Core.List.{List, [], ◌∷◌}
 use Prim.Native.Nat.{ℕ}
-use Rattle.rules.specs.declared.Answer.{Answer}
-use Rattle.rules.specs.declared.Answer.TheVariants.{Done, Key, Number, Absent, NoRoom}
 use Rattle.rules.specs.Ranges.{within, first_from}
-use Rattle.rules.specs.Answers.{found, present}
+use Rattle.rules.specs.Answers.{Answer, counted, found, present}
 use Rattle.rules.specs.WhatTheIndexDoes.{code_of, document01, coded, is_identifier, labels, is_row}
 use Rattle.rules.specs.Table.{empty, update, used, largest_used, next, walk, node, lookup, child_codes, childless}
 use Rattle.rules.specs.Placement.{greatest_of, opens, placed, fits}
@@ -14,6 +12,8 @@ use Rattle.rules.specs.Insertion.{to, renamed, moved, relocate, grow, collide, e
 use Rattle.rules.specs.DeletionAndCompaction.{trimmed, prune, compaction_step, compaction_steps, deleted, compacted}
 use Rattle.rules.specs.Commands.{Command, insert, delete, find, compact, key_allowed, number_allowed, carried_out, answered}
 use Rattle.tree.specs.ThePlainList.{history}
+use Rattle.rules.specs.declared.Refusal.TheVariants.{Key, Number, Absent, NoRoom}
+use Rattle.std.specs.Prelude.{Err}
 
 -- What the empty table answers to commands, in arrays with this last cell.
 unfoldable pub answers_in : ℕ → List Command → List Answer
@@ -22,21 +22,21 @@ answers_in last cs = (history document01 last empty [] cs).answers
 
 -- The lines of the example: `ab` is 97, 98, and `a` is 97.
 pub example : answers_in 4095 (insert (97 ∷ (98 ∷ [])) 7 ∷ (insert (97 ∷ []) 9 ∷ (find (97 ∷ (98 ∷ [])) ∷ (delete (97 ∷ (98 ∷ [])) ∷ (find (97 ∷ (98 ∷ [])) ∷ (compact 5 ∷ [])))))) ≡
-    (Done 0 ∷ (Done 1 ∷ (found 7 ∷ (found 7 ∷ (Absent ∷ (Done 0 ∷ []))))))
+    (counted 0 ∷ (counted 1 ∷ (found 7 ∷ (found 7 ∷ ((Err Absent) ∷ (counted 0 ∷ []))))))
 unfolding answers_in
 example = refl
 
 -- PRESENT; capital A is no identifier; 0 is no row.
 pub example_refused : answers_in 4095 (insert (97 ∷ []) 9 ∷ (insert (97 ∷ []) 3 ∷ (find (65 ∷ []) ∷ (insert (97 ∷ (98 ∷ [])) 0 ∷ [])))) ≡
-    (Done 0 ∷ (present 9 ∷ (Key ∷ (Number ∷ []))))
+    (counted 0 ∷ (present 9 ∷ ((Err Key) ∷ ((Err Number) ∷ []))))
 unfolding answers_in
 example_refused = refl
 
 -- The label of z leads from base 1 to cell 28.
-pub example_no_room : answers_in 27 (insert (122 ∷ []) 7 ∷ []) ≡ (NoRoom ∷ [])
+pub example_no_room : answers_in 27 (insert (122 ∷ []) 7 ∷ []) ≡ ((Err NoRoom) ∷ [])
 unfolding answers_in
 example_no_room = refl
 
-pub example_room : answers_in 28 (insert (122 ∷ []) 7 ∷ []) ≡ (Done 0 ∷ [])
+pub example_room : answers_in 28 (insert (122 ∷ []) 7 ∷ []) ≡ (counted 0 ∷ [])
 unfolding answers_in
 example_room = refl

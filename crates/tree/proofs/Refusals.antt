@@ -8,15 +8,15 @@ use Prim.Native.Nat.{ℕ, ◌<◌}
 use native.Mathlib.Omega.{arith}
 use lib.Dec.{ltb}
 use borrow.Author.Tests.{ltb-false}
-use Rattle.rules.specs.declared.Answer.{Answer}
-use Rattle.rules.specs.declared.Answer.TheVariants.{NoRoom}
-use Rattle.rules.specs.Answers.{number, is_done}
+use Rattle.rules.specs.Answers.{Answer, number, is_done}
 use Rattle.rules.specs.WhatTheIndexDoes.{Profile, is_identifier, is_row}
 use Rattle.rules.specs.Table.{Table, lookup}
 use Rattle.rules.specs.Insertion.{inserted}
 use Rattle.rules.specs.Commands.{Command, insert, delete, find, compact, Outcome, key_allowed, number_allowed, carried_out, answered}
 use Rattle.rules.proofs.Choices.{branch}
 use Rattle.tree.specs.Room.{Unplaced}
+use Rattle.rules.specs.declared.Refusal.TheVariants.{NoRoom}
+use Rattle.std.specs.Prelude.{Err}
 
 module _ (P : Profile) (last : ℕ) (t : Table) where
   -- ---- any refusal
@@ -43,9 +43,9 @@ module _ (P : Profile) (last : ℕ) (t : Table) where
   module _ (key : List ℕ) (n : ℕ) where
     -- NO ROOM is given for the one reason only.
     abbrev Why : Outcome → Type 0
-    Why o = o.answer ≡ NoRoom → Unplaced P last t key n
+    Why o = o.answer ≡ Err NoRoom → Unplaced P last t key n
 
-    other : {a : Answer} → number a < number NoRoom → a ≡ NoRoom → Unplaced P last t key n
+    other : {a : Answer} → number a < number (Err NoRoom) → a ≡ Err NoRoom → Unplaced P last t key n
     other h e = absurd (omega (arith, ap number e))
 
     why : Why (answered P last t true (insert key n))
@@ -56,12 +56,12 @@ module _ (P : Profile) (last : ℕ) (t : Table) where
         (λ f e. record { identifier = k; row = r; absent = omega (arith, ltb-false 0 (lookup P t.cells key) h); unfit = f })))
         (λ r. other (omega arith))) (λ k. other (omega arith))
 
-    given : Unplaced P last t key n → (answered P last t true (insert key n)).answer ≡ NoRoom
+    given : Unplaced P last t key n → (answered P last t true (insert key n)).answer ≡ Err NoRoom
     unfolding answered carried_out key_allowed number_allowed
     given u = rw (u.identifier, u.row, u.absent, u.unfit)
 
-    pub no_room_exactly : ((answered P last t true (insert key n)).answer ≡ NoRoom) ↔ Unplaced P last t key n
+    pub no_room_exactly : ((answered P last t true (insert key n)).answer ≡ Err NoRoom) ↔ Unplaced P last t key n
     no_room_exactly = (why, given)
 
-    pub no_room_unchanged : (answered P last t true (insert key n)).answer ≡ NoRoom → (answered P last t true (insert key n)).table ≡ t
+    pub no_room_unchanged : (answered P last t true (insert key n)).answer ≡ Err NoRoom → (answered P last t true (insert key n)).table ≡ t
     no_room_unchanged e = refused_unchanged true (insert key n) (ap is_done e)

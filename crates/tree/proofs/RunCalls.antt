@@ -11,8 +11,7 @@ use lib.ListN.{length, drop, length-append, length-drop}
 use lib.Seq.{sets, length-sets, get_or-append_seam}
 use lib.IntN.{ℤ}
 use lib.Dec.{leb}
-use Rattle.rules.specs.declared.Answer.TheVariants.{Done, Line}
-use Rattle.rules.specs.Answers.{is_done}
+use Rattle.rules.specs.Answers.{counted, is_done}
 use Rattle.rules.specs.Listing.{LF}
 use Rattle.rules.specs.WhatTheIndexDoes.{Profile, RoundTrip, last_cell}
 use Rattle.rules.specs.Table.{Table}
@@ -27,6 +26,8 @@ use Rattle.tree.proofs.Elements.{base_length}
 use Rattle.tree.proofs.SheetLines.{lines_cut, lines_feed, digits_unbroken}
 use Rattle.tree.proofs.SingleCalls.{Audited, single_rendered}
 use Rattle.tree.proofs.EndedRuns.{ended_renders, run_done, run_needs, ended_parts}
+use Rattle.rules.specs.declared.Refusal.TheVariants.{Line}
+use Rattle.std.specs.Prelude.{Err}
 
 -- A command's bytes are digits.
 command_digits : (line : List ℕ) (c : Command) → parsed line ≡ some c → digits line ≡ true
@@ -54,14 +55,14 @@ module _ {K : Kind} {P : Profile} (audited : Audited K P) (trip : RoundTrip P) (
     pub run_line : (sheet out line : List ℕ) (c : Command) → sheet_lines sheet ≡ line ∷ [] → parsed line ≡ some c → 11 ≤ length out →
         let single = command_call K P base check c in
         run_call K P base check sheet out ≡
-        record { answer = Done 1; base = single.base; check = single.check; out = sets out 0 (answer_bytes single.answer) }
+        record { answer = counted 1; base = single.base; check = single.check; out = sets out 0 (answer_bytes single.answer) }
     unfolding answered_lines answered_line
     run_line sheet out line c one is room =
         run_done r audited sheet out (rw one room) ∙ rw (one, is, single_rendered audited base check e c, append-nil)
 
     -- One that is no command is answered LINE, and leaves the arrays as they are.
     pub run_no_line : (sheet out line : List ℕ) → sheet_lines sheet ≡ line ∷ [] → parsed line ≡ none → 11 ≤ length out →
-        run_call K P base check sheet out ≡ record { answer = Done 1; base = base; check = check; out = sets out 0 (answer_bytes Line) }
+        run_call K P base check sheet out ≡ record { answer = counted 1; base = base; check = check; out = sets out 0 (answer_bytes (Err Line)) }
     unfolding answered_lines answered_line
     run_no_line sheet out line one is room =
         run_done r audited sheet out (rw one room) ∙ rw (one, is, append-nil, ← r.base_is, ← r.check_is)
@@ -91,7 +92,7 @@ module _ {K : Kind} {P : Profile} (audited : Audited K P) (trip : RoundTrip P) (
   pub run_on : K.audit P base check ≡ true → (line rest out : List ℕ) (c : Command) → parsed line ≡ some c →
       is_done (run_call K P base check (line ++ (LF ∷ rest)) out).answer ≡ true →
       let single = command_call K P base check c in
-      let one : Ran = record { answer = Done 1; base = single.base; check = single.check; out = sets out 0 (answer_bytes single.answer) } in
+      let one : Ran = record { answer = counted 1; base = single.base; check = single.check; out = sets out 0 (answer_bytes single.answer) } in
       let two = run_call K P one.base one.check rest (drop 11 one.out) in
       InTwoParts (run_call K P base check (line ++ (LF ∷ rest)) out) one two 1 (length (sheet_lines rest))
   unfolding sheet_lines

@@ -7,9 +7,7 @@ use mathlib.Core.Option.{Option, none, some}
 use Prim.Native.Nat.{ℕ}
 use lib.ListN.{length}
 use lib.IntN.{ℤ}
-use Rattle.rules.specs.declared.Answer.{Answer}
-use Rattle.rules.specs.declared.Answer.TheVariants.{Line}
-use Rattle.rules.specs.Answers.{is_done}
+use Rattle.rules.specs.Answers.{Answer, is_done}
 use Rattle.rules.specs.WhatTheIndexDoes.{Profile, is_identifier, last_cell}
 use Rattle.rules.specs.Table.{Table}
 use Rattle.rules.specs.Commands.{Command, insert, delete, find, compact, Outcome, key_allowed, number_allowed, carried_out, answered}
@@ -23,6 +21,8 @@ use Rattle.tree.proofs.Identifiers.{identifier_coded}
 use Rattle.tree.proofs.Refusals.{refused_unchanged}
 use Rattle.tree.proofs.SevenRules.{rules_render, render_rules, plain_rules_render, plain_render_rules}
 use Rattle.tree.proofs.Finding.{rendered_row}
+use Rattle.rules.specs.declared.Refusal.TheVariants.{Line}
+use Rattle.std.specs.Prelude.{Err}
 
 -- ---- the audits
 
@@ -64,7 +64,7 @@ module _ {K : Kind} {P : Profile} (audited : Audited K P) (base check : List ℤ
   -- The same of a run's line, LINE included.
   pub line_rendered : (c : Option Command) → let o = answered_line P (last_cell base) t c in stored K P base check o ≡ rendered o
   unfolding answered_line stored
-  line_rendered none = kept_rendered Line
+  line_rendered none = kept_rendered (Err Line)
   line_rendered (some c) = stored_rendered c
 
   find_rendered : (key : List ℕ) → record { answer = find_call P base check key; base = base; check = check } ≡

@@ -12,9 +12,7 @@ use lib.Dec.{leb, ltb, eqb}
 use borrow.Author.Tests.{leb-true, leb-false}
 use Rattle.numbers.specs.Stored.{minus_at}
 use Rattle.numbers.proofs.Cases.{some?}
-use Rattle.rules.specs.declared.Answer.{Answer}
-use Rattle.rules.specs.declared.Answer.TheVariants.{NoSpace}
-use Rattle.rules.specs.Answers.{number, value, is_done, found_or_absent}
+use Rattle.rules.specs.Answers.{Answer, number, value, is_done, found_or_absent}
 use Rattle.rules.specs.WhatTheIndexDoes.{Profile, is_identifier, is_row, labels, right_lengths, last_cell}
 use Rattle.rules.specs.Finding.{row_of, leaf_at, row_found}
 use Rattle.rules.specs.Table.{Cells, Table, used, next, walk, lookup, child_codes}
@@ -32,6 +30,8 @@ use Rattle.tree.proofs.Branches.{grow_count}
 use Rattle.tree.proofs.StepsTaken.{compacted_taken}
 use Rattle.tree.proofs.ListingLength.{listing_most}
 use Rattle.tree.proofs.SingleCalls.{Audited}
+use Rattle.rules.specs.declared.Refusal.TheVariants.{NoSpace}
+use Rattle.std.specs.Prelude.{Err}
 
 -- ---- a row
 
@@ -123,10 +123,10 @@ module _ {K : Kind} {P : Profile} (audited : Audited K P) (base check : List ℤ
   bytes_most e = let h = audited.renders base check e in le_trans (listing_most h.table) (mul-le-mul_left (11 + 2 * P.limit) h.fits)
 
   -- No listing is longer, and where there is that room its answer is another than NO SPACE.
-  list_either : (out : List ℕ) → let a = (list_call K P base check out).answer in (value a ≤ room) × (room ≤ length out → a ≢ NoSpace)
+  list_either : (out : List ℕ) → let a = (list_call K P base check out).answer in (value a ≤ room) × (room ≤ length out → a ≢ (Err NoSpace))
   unfolding list_call sound_list
   list_either out =
-      let F : Written → Type 0 = λ x. (value x.answer ≤ room) × (room ≤ length out → x.answer ≢ NoSpace) in
+      let F : Written → Type 0 = λ x. (value x.answer ≤ room) × (room ≤ length out → x.answer ≢ (Err NoSpace)) in
       let n = length (listing P (read_cells base check)) in
       branch F (right_lengths base check) (λ _. branch F (K.audit P base check)
       (λ e. let h = bytes_most e in branch F (leb n (length out)) (λ _. (h, λ _ z. omega (arith, ap number z)))
@@ -136,7 +136,7 @@ module _ {K : Kind} {P : Profile} (audited : Audited K P) (base check : List ℤ
   pub list_most : (out : List ℕ) → value (list_call K P base check out).answer ≤ (11 + 2 * P.limit) * last_cell base
   list_most out = (list_either out).0
 
-  pub list_enough : (out : List ℕ) → (11 + 2 * P.limit) * last_cell base ≤ length out → (list_call K P base check out).answer ≢ NoSpace
+  pub list_enough : (out : List ℕ) → (11 + 2 * P.limit) * last_cell base ≤ length out → (list_call K P base check out).answer ≢ (Err NoSpace)
   list_enough out = (list_either out).1
 
   pub run_most : (sheet out : List ℕ) → 11 * value (run_call K P base check sheet out).answer ≤ length out

@@ -1,8 +1,8 @@
 -- A sheet by its bytes: where its first line ends, and where it may be cut; and a run in two parts.
 use Rattle.std.specs.Prelude.{◌≡◌, ◌≢◌, ◌⊎◌, List, [], ◌++◌, ℕ, ◌+◌, ◌*◌, ◌-◌, ◌≤◌, ◌<◌, length, get_or, take}
-use Rattle.rules.specs.declared.Answer.TheVariants.{Done}
 use Rattle.rules.specs.Listing.{LF}
 use Rattle.rules.specs.Calls.{Ran}
+use Rattle.rules.specs.Answers.{counted}
 
 -- No line feed is among these bytes.
 abbrev pub Unbroken : List ℕ → Type 0
@@ -27,9 +27,9 @@ TOO_LONG = 523
 -- What the whole run gives, the two runs give, of n and of m lines: the same arrays at the end, and the first's answers with the
 -- second's buffer behind them.
 pub record InTwoParts (whole one two : Ran) (n m : ℕ) : Type 0 where
-  pub first : one.answer ≡ Done n
-  pub second : two.answer ≡ Done m
-  pub both : whole.answer ≡ Done (n + m)
+  pub first : one.answer ≡ counted n
+  pub second : two.answer ≡ counted m
+  pub both : whole.answer ≡ counted (n + m)
   pub base_is : whole.base ≡ two.base
   pub check_is : whole.check ≡ two.check
   pub out_is : whole.out ≡ take (11 * n) one.out ++ two.out

@@ -1,9 +1,7 @@
 -- Demand 2: a plain list of identifiers and rows beside the table. Both take the same commands; the list decides and answers by
 -- what it holds, and is told of the table's placement only what a list cannot know.
-use Rattle.std.specs.Prelude.{◌≡◌, ℕ, ◌≤◌, Bool, true, false, cond, ◌&&◌, List, [], ◌∷◌, ltb, eqb}
-use Rattle.rules.specs.declared.Answer.{Answer}
-use Rattle.rules.specs.declared.Answer.TheVariants.{Done, Key, Number, Absent, NoRoom}
-use Rattle.rules.specs.Answers.{found, found_or_absent, present}
+use Rattle.std.specs.Prelude.{◌≡◌, ℕ, ◌≤◌, Bool, true, false, cond, ◌&&◌, List, [], ◌∷◌, ltb, eqb, Err}
+use Rattle.rules.specs.Answers.{Answer, counted, found, found_or_absent, present}
 use Rattle.rules.specs.WhatTheIndexDoes.{Profile}
 use Rattle.rules.specs.Table.{Table, lookup}
 use Rattle.rules.specs.Insertion.{inserted}
@@ -11,6 +9,7 @@ use Rattle.rules.specs.DeletionAndCompaction.{compacted}
 use Rattle.rules.specs.Listing.{Entry}
 use Rattle.rules.specs.Commands.{Command, insert, delete, find, compact, Outcome, key_allowed, number_allowed, answered}
 use Rattle.tree.specs.Soundness.{Sound}
+use Rattle.rules.specs.declared.Refusal.TheVariants.{Key, Number, Absent, NoRoom}
 
 -- ---- the list
 
@@ -59,21 +58,21 @@ module _ (P : Profile) (news : Told) (es : List Entry) where
   unfoldable pub heard : Command → Reply
   heard (insert key n) =
       let held = row_in es key in
-      let done : Reply = record { answer = Done news.count; list = record { key = key; row = n } ∷ es } in
-      let new = cond news.fitted done (kept NoRoom) in
+      let done : Reply = record { answer = counted news.count; list = record { key = key; row = n } ∷ es } in
+      let new = cond news.fitted done (kept (Err NoRoom)) in
       cond (ltb 0 held) (kept (present held)) new
   heard (delete key) =
       let held = row_in es key in
       let done : Reply = record { answer = found held; list = without es key } in
-      cond (ltb 0 held) done (kept Absent)
+      cond (ltb 0 held) done (kept (Err Absent))
   heard (find key) = kept (found_or_absent (row_in es key))
-  heard (compact n) = kept (Done news.count)
+  heard (compact n) = kept (counted news.count)
 
   -- KEY, NUMBER, then what the command itself meets.
   unfoldable pub replied : Command → Reply
   replied command =
-      let numbered = cond (number_allowed command) (heard command) (kept Number) in
-      cond (key_allowed P command) numbered (kept Key)
+      let numbered = cond (number_allowed command) (heard command) (kept (Err Number)) in
+      cond (key_allowed P command) numbered (kept (Err Key))
 
 -- ---- any sequence of commands, on both
 

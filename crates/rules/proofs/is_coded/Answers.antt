@@ -1,35 +1,35 @@
 -- `is_coded` asks each character for its code. Assumes nothing.
-use mathlib.Core.Path.{◌≡◌, sym, ap, ◌∙◌}
-use mathlib.Core.Bool.{false}
-use mathlib.Core.List.{List}
-use Prim.Native.Nat.{ℕ, ◌<◌, ◌≤◌}
+use Rattle.std.specs.Prelude.{is_some}
+use Rattle.std.specs.List.{list_all}
+use Rattle.std.proofs.Common.{rules, tests}
+use Rattle.std.proofs.lemmas.Iterator.{YieldsList-from_slice}
+use Rattle.std.proofs.lemmas.Iterator.Search.{all_from_yields_List}
+use mathlib.Core.Path.{◌≡◌, refl, sym, ap, ◌∙◌}
+use mathlib.Core.Bool.{Bool, ◌&&◌}
+use mathlib.Core.List.{List, [], ◌∷◌}
+use Prim.Native.Nat.{ℕ, zero, suc}
 use native.Mathlib.Omega.{arith}
-use lib.ListN.{length, get_or}
+use lib.Dec.{leb}
 use borrow.Author.Tests.{le-leb}
-use Rattle.rules.specs.WhatTheIndexDoes.{Code, document01, coded}
-use Rattle.rules.proofs.Texts.{behind, first_and_rest, none_left}
+use Rattle.rules.specs.Options.{some_number}
+use Rattle.rules.specs.WhatTheIndexDoes.{code_of, document01, coded}
 use Rattle.rules.proofs.is_coded.Goals as goal
 
--- A character without a code, and one with.
-module _ (text : List ℕ) (h : 0 < length text) {r : ℕ} (code : Code (get_or text 0 0) r) where
-  uncoded : r ≡ 0 → false ≡ coded document01 text
-  unfolding coded
-  uncoded z = rw (first_and_rest text h, ← code.is, z)
+-- Whether a character has a code.
+abbrev has_code : ℕ → Bool
+has_code b = leb 1 (code_of b)
 
-  onward : 1 ≤ r → coded document01 (behind text) ≡ coded document01 text
-  unfolding coded
-  onward l = sym (ap (coded document01) (first_and_rest text h) ∙ rw (← code.is, le-leb 1 r l))
+is_some_number : (n : ℕ) → is_some (some_number n) ≡ leb 1 n
+is_some_number zero = refl
+is_some_number (suc n) = sym (le-leb 1 (suc n) (omega arith))
 
-pub returns-then-code-eq0 : goal.returns-then-code-eq0
-returns-then-code-eq0 c =
-    let l = c.loop-rest in
-    uncoded l.rest.now (omega arith) c.code.ensures c.if-code-eq0.true ∙ l.invariant
-
-pub loop-rest-preserved : goal.loop-rest-preserved
-loop-rest-preserved c =
-    let l = c.loop-rest in
-    onward l.rest.now (omega arith) c.code.ensures (omega arith) ∙ l.invariant
+each_coded : (key : List ℕ) → list_all has_code key ≡ coded document01 key
+unfolding coded
+each_coded [] = refl
+each_coded (b ∷ bs) = ap (λ t. has_code b && t) (each_coded bs)
 
 pub returns : goal.returns
-unfolding coded
-returns c = rw (none_left c.loop-rest.rest.now c.loop-rest-test.false) at c.loop-rest.invariant
+returns c =
+    all_from_yields_List has_code _ _ _ c.all.ensures.ran (YieldsList-from_slice c.args.key.now cc)
+    (λ x b q k. search (rules, tests, is_some_number))
+    ∙ each_coded c.args.key.now

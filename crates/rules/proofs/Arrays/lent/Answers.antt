@@ -1,0 +1,10 @@
+-- `Arrays::lent` hands on arrays of the right lengths. Assumes nothing.
+use mathlib.Core.Path.{sym, ◌∙◌}
+use Rattle.rules.proofs.Lengths.{lengths_same, lengths_within}
+use Rattle.rules.proofs.Arrays.lent.Goals as goal
+
+pub invariant_of-result : goal.invariant_of-result
+invariant_of-result c =
+    let e = sym c.right_lengths.ensures ∙ c.if-right_lengths.true in
+    let w = lengths_within c.args.base.now c.args.check.now e in
+    record { same_length = lengths_same c.args.base.now c.args.check.now e; enough = w.0; few = w.1 }
