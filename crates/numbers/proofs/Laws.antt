@@ -9,6 +9,7 @@ use lib.ListN.{length, get_or, get_or-eq_default}
 use lib.IntN.{ℤ, pos, negsuc}
 use Rattle.numbers.proofs.Cases.{lt_or_ge}
 use Rattle.numbers.specs.Stored.{negative, plus_of, minus_of}
+use Rattle.numbers.specs.Sides.{minus_laws}
 
 -- ---- one number
 
@@ -17,8 +18,7 @@ plus_negative zero = refl
 plus_negative (suc n) = refl
 
 pub minus_negative : (n : ℕ) → minus_of (negative n) ≡ n
-minus_negative zero = refl
-minus_negative (suc n) = refl
+minus_negative = minus_laws.back
 
 -- A number is on one side of 0 only.
 pub one_side : (z : ℤ) → 1 ≤ plus_of z → minus_of z ≡ 0

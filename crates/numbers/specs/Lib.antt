@@ -1,1 +1,2 @@
 pub mod Stored
+pub mod Sides
