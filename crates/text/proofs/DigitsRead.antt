@@ -1,35 +1,40 @@
 -- Hexadecimal digits that are read: one more digit of a number, one more character of two. Assumes nothing.
-use mathlib.Core.Path.{◌≡◌, sym, ap, ap₂, ◌∙◌}
-use mathlib.Core.Logic.{◌≢◌}
-use mathlib.Core.Bool.{true, false, ◌&&◌, true≢false}
-use mathlib.Core.List.{List, ◌∷◌, ◌++◌, append_assoc, append-nil}
+use mathlib.Core.Path.{◌≡◌, refl, sym, ap, ap₂, ◌∙◌}
+use mathlib.Core.Bool.{true, false, ◌&&◌}
+use mathlib.Core.List.{List, [], ◌∷◌, ◌++◌, append_assoc, append-nil}
 use Prim.Native.Nat.{ℕ, zero, suc, ◌+◌, ◌*◌, ◌-◌, ◌≤◌, ◌<◌, ◌^◌}
-use native.Mathlib.Nat.{pow-suc, pow-le-pow_right}
-use native.Mathlib.Numerals.{add-one, sub-one}
+use native.Mathlib.Nat.{pow-suc}
+use native.Mathlib.Numerals.{add-one}
 use native.Mathlib.Omega.{arith}
-use lib.ListN.{length, get_or, take, drop, set}
-use lib.Seq.{drop-cons, drop-drop, take-add, take-suc-set}
+use lib.ListN.{length, get_or, take, drop, set, drop_of_length-le, length-append, length-set}
+use lib.Seq.{drop-cons, drop-drop, drop_at, take_at, take_all, take-suc-set}
 use borrow.Author.Tests.{lt-ltb}
+use Rattle.std.specs.Prelude.{Some, None}
 use Rattle.rules.specs.Ranges.{within}
 use Rattle.rules.specs.ARun.{nibble, digits, read_on, field, pairs}
 use Rattle.rules.proofs.Choices.{fails, passes}
 use Rattle.rules.proofs.Digits.{digits_append}
-use Rattle.text.specs.Reading.{are_digits, NumberAt, NumberRead, CharactersRead}
+use Rattle.rules.proofs.Texts.{none_left}
+use Rattle.rules.proofs.Ranges.{inside, above, within_is}
+use Rattle.text.specs.Reading.{NumberRead, CharactersRead}
 
 -- ---- a digit
 
+outside : (low high n : ℕ) → (low ≤ n → high < n) → within low high n ≡ false
+outside low high n f = fails (within low high n) (λ y. let i = within_is low high n y in omega (arith, f i.0))
+
 module _ (b : ℕ) where
-  pub numeral : within 48 57 b ≡ true → nibble b ≡ b - 48
+  numeral : 48 ≤ b → b ≤ 57 → nibble b ≡ b - 48
   unfolding nibble
-  numeral y = rw y
+  numeral l h = rw (inside 48 57 b l h)
 
-  pub letter : within 48 57 b ≡ false → within 97 102 b ≡ true → nibble b ≡ b - 87
+  letter : 97 ≤ b → b ≤ 102 → nibble b ≡ b - 87
   unfolding nibble
-  letter f y = rw (f, y)
+  letter l h = rw (above 48 57 b (omega arith), inside 97 102 b l h)
 
-  pub neither : within 48 57 b ≡ false → within 97 102 b ≡ false → nibble b ≡ 16
+  neither : (48 ≤ b → 57 < b) → (97 ≤ b → 102 < b) → nibble b ≡ 16
   unfolding nibble
-  neither f g = rw (f, g)
+  neither l m = rw (outside 48 57 b l, outside 97 102 b m)
 
 digits_more : (b : ℕ) (bs : List ℕ) → nibble b < 16 → digits (b ∷ bs) ≡ digits bs
 unfolding digits
@@ -39,135 +44,119 @@ digits_none : (b : ℕ) (bs : List ℕ) → nibble b ≡ 16 → digits (b ∷ bs
 unfolding digits
 digits_none b bs e = rw e
 
--- The first of the k bytes from m on, and those behind it.
-first_byte : (line : List ℕ) (m k : ℕ) → m < length line → 1 ≤ k → take k (drop m line) ≡ get_or line m 0 ∷ take (k - 1) (drop (m + 1) line)
-first_byte line m zero h l = absurd (omega arith)
-first_byte line m (suc k) h l = rw (drop-cons line m 0 h, add-one, sub-one)
-
 -- ---- a number
 
--- What is left to read, after j digits that say n, comes to the whole.
-pub record Going (line : List ℕ) (i k n j : ℕ) : Type 0 where
-  pub within : j ≤ k
-  pub small : n < 16 ^ j
-  pub digits_left : are_digits line (i + j) (k - j) ≡ are_digits line i k
-  pub number_left : read_on n (take (k - j) (drop (i + j) line)) ≡ field line i k
+module _ (bytes : List ℕ) where
+  -- What is left to read, after j digits that say n, comes to the whole.
+  pub record Going (n j : ℕ) : Type 0 where
+    pub within : j ≤ length bytes
+    pub small : n < 16 ^ j
+    pub digits_left : digits (drop j bytes) ≡ digits bytes
+    pub number_left : read_on n (drop j bytes) ≡ read_on 0 bytes
 
-module _ (line : List ℕ) (i k : ℕ) (asked : NumberAt line i k) where
-  pub going_first : Going line i k 0 0
-  unfolding field
-  going_first =
-      let all : k - 0 ≡ k = omega arith in
-      let from : i + 0 ≡ i = omega arith in
-      record { within = omega arith; small = omega arith; digits_left = rw (all, from); number_left = rw (all, from) }
-
-  module _ {n j : ℕ} (g : Going line i k n j) where
-    pub all_read : k ≤ j → NumberRead line i k n
+  module _ {n j : ℕ} (g : Going n j) where
+    pub all_read : length bytes ≤ j → NumberRead bytes (Some n)
     unfolding digits read_on
     all_read h =
-        let done : k - j ≡ 0 = omega arith in
-        let yes : are_digits line i k ≡ true = sym g.digits_left ∙ ap (λ (m : ℕ). are_digits line (i + j) m) done in
-        let same : j ≡ k = omega (arith, g.within) in
-        record {
-          is = rw yes (ap (λ (m : ℕ). read_on n (take m (drop (i + j) line))) (sym done) ∙ g.number_left);
-          small = λ _. rw same at g.small;
-        }
+        let none = drop_of_length-le bytes {i = j} h in
+        let same : j ≡ length bytes = omega (arith, g.within) in
+        record { is = rw (← g.digits_left, ← g.number_left, none); small = rw same at g.small }
 
-    module _ (h : j < k) where
+    module _ (h : j < length bytes) where
       abbrev b : ℕ
-      b = get_or line (i + j) 0
+      b = get_or bytes j 0
 
-      front : take (k - j) (drop (i + j) line) ≡ b ∷ take (k - (j + 1)) (drop (i + (j + 1)) line)
-      front =
-          let e : (k - j) - 1 ≡ k - (j + 1) = omega arith in
-          let f : i + j + 1 ≡ i + (j + 1) = omega arith in
-          first_byte line (i + j) (k - j) (omega (arith, asked.inside)) (omega arith) ∙ ap₂ (λ (x y : ℕ). b ∷ take x (drop y line)) e f
+      front : drop j bytes ≡ b ∷ drop (j + 1) bytes
+      front = rw add-one (drop-cons bytes j 0 h)
 
-      pub not_read : nibble b ≡ 16 → NumberRead line i k 4294967296
-      not_read e =
-          let no : are_digits line i k ≡ false = sym g.digits_left ∙ ap digits front ∙ digits_none b _ e in
-          record { is = rw no; small = λ y. absurd (true≢false (sym y ∙ no)) }
+      pub not_read : (48 ≤ b → 57 < b) → (97 ≤ b → 102 < b) → NumberRead bytes None
+      not_read l m = record { is = rw (← g.digits_left, front, digits_none b _ (neither b l m)); small = tt }
 
       -- d is what the digit stands for.
-      pub going_more : {d : ℕ} → nibble b ≡ d → d < 16 → Going line i k (n * 16 + d) (j + 1)
+      going_more : {d : ℕ} → nibble b ≡ d → d < 16 → Going (n * 16 + d) (j + 1)
       unfolding read_on
       going_more is small =
-          let s : nibble b < 16 = omega arith in
+          let low : nibble b < 16 = omega arith in
           rw (← is) (record {
             within = omega arith;
             small = rw (add-one, pow-suc) (omega (arith, g.small));
-            digits_left = sym (ap digits front ∙ digits_more b _ s) ∙ g.digits_left;
+            digits_left = sym (ap digits front ∙ digits_more b _ low) ∙ g.digits_left;
             number_left = sym (ap (read_on n) front) ∙ g.number_left;
           })
 
-      pub number_fits : {d : ℕ} → d < 16 → n * 16 + d < 4294967296
-      number_fits s = let p : 16 ^ (j + 1) ≤ 16 ^ 8 = pow-le-pow_right {n = 16} (omega arith) {i = j + 1} {j = 8} (omega (arith, asked.few)) in
-          let q : 16 ^ (j + 1) ≡ 16 ^ j * 16 = rw (add-one, pow-suc) in
-          omega (arith, g.small)
+      pub numeral_read : 48 ≤ b → b ≤ 57 → Going (n * 16 + (b - 48)) (j + 1)
+      numeral_read l u = going_more (numeral b l u) (omega arith)
+
+      pub letter_read : 97 ≤ b → b ≤ 102 → Going (n * 16 + (b - 87)) (j + 1)
+      letter_read l u = going_more (letter b l u) (omega arith)
 
 -- ---- what was read
 
-module _ {line : List ℕ} {i k r : ℕ} (read : NumberRead line i k r) where
-  pub number_is : are_digits line i k ≡ true → r ≡ field line i k
-  number_is y = read.is ∙ rw y
+module _ {bytes : List ℕ} where
+  pub is_number : {n : ℕ} → NumberRead bytes (Some n) → digits bytes ≡ true
+  is_number r = passes (digits bytes) (λ no. cc (rw no at r.is))
 
-  pub is_number : r ≢ 4294967296 → are_digits line i k ≡ true
-  is_number d = passes (are_digits line i k) (λ no. d (read.is ∙ rw no))
+  pub number_is : {n : ℕ} → NumberRead bytes (Some n) → n ≡ read_on 0 bytes
+  number_is r = let yes = is_number r in cc (rw yes at r.is)
 
-  pub no_number : k ≤ 8 → r ≡ 4294967296 → are_digits line i k ≡ false
-  no_number few e = fails (are_digits line i k) (λ y.
-      let p : 16 ^ k ≤ 16 ^ 8 = pow-le-pow_right {n = 16} (omega arith) {i = k} {j = 8} few in
-      omega (arith, read.small y))
+  pub no_number : NumberRead bytes None → digits bytes ≡ false
+  no_number r = fails (digits bytes) (λ yes. cc (rw yes at r.is))
 
 -- ---- characters
 
--- What is left to read, after j characters at the front of the key, comes to the whole.
-pub record Spelling (line : List ℕ) (i n : ℕ) (key : List ℕ) (j : ℕ) : Type 0 where
-  pub within : j ≤ n
-  pub digits_left : are_digits line (i + 2 * j) (2 * (n - j)) ≡ are_digits line i (2 * n)
-  pub characters_left : take j key ++ pairs line (i + 2 * j) (n - j) ≡ pairs line i n
+-- Behind a first pair of digits.
+module _ (pair more : List ℕ) (two : length pair ≡ 2) where
+  field_first : field (pair ++ more) 0 2 ≡ read_on 0 pair
+  unfolding field
+  field_first = ap (read_on 0) (take_at pair more 2 two)
 
-module _ (line : List ℕ) (i n : ℕ) (key : List ℕ) where
-  module _ {j : ℕ} (s : Spelling line i n key j) where
-    pub all_spelt : n ≤ j → CharactersRead line i n key true
+  field_behind : (i : ℕ) → field (pair ++ more) (i + 2) 2 ≡ field more i 2
+  unfolding field
+  field_behind i =
+      let e : i + 2 ≡ 2 + i = omega arith in
+      rw (e, ← drop-drop i 2 (pair ++ more), drop_at pair more 2 two)
+
+  pairs_behind : (n i : ℕ) → pairs (pair ++ more) (i + 2) n ≡ pairs more i n
+  unfolding pairs
+  pairs_behind zero i = refl
+  pairs_behind (suc n) i = ap₂ ◌∷◌ (field_behind i) (pairs_behind n (i + 2))
+
+module _ (bytes : List ℕ) where
+  -- What is left to read, after j characters at the front of the key, comes to the whole.
+  pub record Spelling (key left : List ℕ) (j : ℕ) : Type 0 where
+    pub long : 2 * j + length left ≡ 2 * length key
+    pub digits_left : digits left ≡ digits bytes
+    pub characters_left : take j key ++ pairs left 0 (length key - j) ≡ pairs bytes 0 (length key)
+
+  module _ {key left : List ℕ} {j : ℕ} (s : Spelling key left j) where
+    pub all_spelt : length left < 2 → CharactersRead bytes key (Some tt)
     unfolding digits pairs
     all_spelt h =
-        let same : j ≡ n = omega (arith, s.within) in
-        let none : n - j ≡ 0 = omega arith in
+        let none : left ≡ [] = none_left left (omega (arith, s.long)) in
+        let all : take j key ≡ key = take_all j key (omega (arith, s.long)) in
+        let last : length key - j ≡ 0 = omega (arith, s.long) in
         record {
           is = rw none at s.digits_left;
-          read = λ _. sym (ap (λ (m : ℕ). take m key) same) ∙ sym (append-nil (take j key)) ∙ rw none at s.characters_left;
+          read = rw (last, all, append-nil) at s.characters_left;
         }
 
-    module _ (h : j < n) where
-      abbrev from : ℕ
-      from = i + 2 * j
+    module _ (pair more : List ℕ) (split : left ≡ pair ++ more) where
+      on : digits bytes ≡ (digits pair && digits more)
+      on = sym s.digits_left ∙ ap digits split ∙ digits_append pair more
 
-      abbrev left : ℕ
-      left = n - (j + 1)
+      pub not_spelt : NumberRead pair None → CharactersRead bytes key None
+      not_spelt r = record { is = sym (rw (no_number r) at on); read = tt }
 
-      on : from + 2 ≡ i + 2 * (j + 1)
-      on = omega arith
-
-      -- The next two bytes, and the others.
-      two_more : are_digits line from (2 * (n - j)) ≡ (are_digits line from 2 && are_digits line (i + 2 * (j + 1)) (2 * left))
-      two_more =
-          let m : 2 * (n - j) ≡ 2 + 2 * left = omega arith in
-          rw (m, take-add 2 (2 * left) (drop from line), digits_append, drop-drop 2 from line, on)
-
-      pub not_spelt : are_digits line from 2 ≡ false → CharactersRead line i n key false
-      not_spelt f =
-          let is : false ≡ are_digits line i (2 * n) = sym (rw f at two_more) ∙ s.digits_left in
-          record { is = is; read = λ e. absurd (true≢false (sym e)) }
-
-      -- The next character, and the others.
-      one_more : pairs line from (n - j) ≡ field line from 2 ∷ pairs line (i + 2 * (j + 1)) left
+      pub spelling_more : length pair ≡ 2 → {n : ℕ} → NumberRead pair (Some n) → Spelling (set key j n) more (j + 1)
       unfolding pairs
-      one_more = let m : n - j ≡ suc left = omega arith in rw (m, on)
-
-      pub spelling_more : are_digits line from 2 ≡ true → j < length key → Spelling line i n (set key j (field line from 2)) (j + 1)
-      spelling_more y room = record {
-        within = omega arith;
-        digits_left = sym (rw y at two_more) ∙ s.digits_left;
-        characters_left = rw (add-one, take-suc-set key j (field line from 2) room, append_assoc) (rw add-one at (sym (ap (λ (r : List ℕ). take j key ++ r) one_more) ∙ s.characters_left));
-      }
+      spelling_more two {n} r =
+          let long : length left ≡ 2 + length more = ap length split ∙ length-append pair more ∙ rw two in
+          let room : j < length key = omega (arith, s.long) in
+          let m : length key - j ≡ suc (length key - (j + 1)) = omega arith in
+          let next : pairs left 0 (length key - j) ≡ n ∷ pairs more 0 (length key - (j + 1)) =
+          rw (split, m, field_first pair more two, pairs_behind pair more two (length key - (j + 1)) 0, number_is r) in
+          record {
+            long = rw length-set (omega (arith, s.long));
+            digits_left = sym (rw (is_number r) at on);
+            characters_left = rw (add-one, length-set, take-suc-set key j n room, append_assoc) (rw add-one at (sym (ap (λ (r : List ℕ). take j key ++ r) next) ∙ s.characters_left));
+          }

@@ -11,8 +11,7 @@ use lib.Seq.{sets, drop-cons}
 use lib.Dec.{eqb}
 use borrow.Author.Tests.{eqb-true}
 use Rattle.rules.specs.Ranges.{each_to}
-use Rattle.rules.specs.declared.Answer.{Answer}
-use Rattle.rules.specs.Answers.{number, value}
+use Rattle.rules.specs.Answers.{Answer, number, value}
 use Rattle.rules.specs.ARun.{answer_bytes}
 use Rattle.rules.specs.Listing.{Entry, digit, hex, hexes, LF, line_of}
 use Rattle.rules.proofs.Ranges.{each_to_lem}

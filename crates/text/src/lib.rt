@@ -13,6 +13,7 @@ use rules::{Answer, Row};
 pub mod reading;
 
 // Writes a line of the listing from byte `at` on: the identifier's length, its characters, the row, line feed.
+#[tactic(auto, using(rules::proofs::Digits::length_line, rules::proofs::Digits::length_hexes))]
 pub fn put_line(out: &mut [u8], at: usize, key: &[u8], row: Row)
     requires { HasRoom out.old at (line_of (entry key.now row.0)) }
     ensures { out.new ≡ sets out.old at (line_of (entry key.now row.0)) }
@@ -25,24 +26,24 @@ pub fn put_line(out: &mut [u8], at: usize, key: &[u8], row: Row)
 }
 
 // Writes an answer at the front of the buffer: its number, its value, line feed.
+#[tactic(auto, using(crate::proofs::Hexadecimal::answer_parts))]
 pub fn put_answer(out: &mut [u8], answer: Answer)
     requires { 11 ≤ length out.old }
     ensures { out.new ≡ sets out.old 0 (answer_bytes answer) }
 {
-    put_hex(out, 0, 2, answer.number() as usize);
-    put_hex(out, 2, 8, answer.value());
+    put_hex(out, 0, 2, rules::number(answer) as usize);
+    put_hex(out, 2, 8, rules::value(answer));
     out[10] = b'\n';
 }
 
 // Writes characters, 2 digits each.
+#[tactic(auto, using(rules::proofs::Digits::length_hexes))]
 fn put_hexes(out: &mut [u8], at: usize, key: &[u8])
     requires { HasRoom out.old at (hexes key.now) }
     ensures { out.new ≡ sets out.old at (hexes key.now) }
 {
-    let mut i = 0;
-    while i < key.len() {
-        put_hex(out, at + 2 * i, 2, key[i] as usize);
-        i += 1;
+    for (i, &ch) in key.iter().enumerate() {
+        put_hex(out, at + 2 * i, 2, ch as usize);
     }
 }
 
@@ -52,11 +53,9 @@ pub fn put_hex(out: &mut [u8], at: usize, k: usize, n: usize)
     ensures { out.new ≡ sets out.old at (hex k n) }
 {
     let digits = b"0123456789abcdef";
-    let mut left = k;
     let mut rest = n;
-    while 0 < left {
-        left -= 1;
-        out[at + left] = digits[rest % 16];
-        rest = rest / 16;
+    for i in (0..k).rev() {
+        out[at + i] = digits[rest % 16];
+        rest /= 16;
     }
 }

@@ -1,67 +1,32 @@
 // Numbers and characters in hexadecimal digits, read from a line. A byte that is no digit is met safely.
-ghost use Rattle.std.specs.Prelude.{◌≡◌};
-ghost use Rattle.rules.specs.Ranges.{within};
-ghost use Rattle.text.specs.Reading.{NumberAt, NumberRead, CharactersAt, CharactersRead};
+ghost use Rattle.std.specs.Prelude.{◌≡◌, ◌*◌, ◌≤◌, length};
+ghost use Rattle.text.specs.Reading.{NumberRead, CharactersRead};
 
-// Whether a byte is one of 0-9.
-fn is_numeral(b: u8) -> bool
-    ensures { result ≡ within 48 57 b }
-{
-    if b < b'0' {
-        return false;
-    }
-    b <= b'9'
-}
-
-// Whether a byte is one of a-f.
-fn is_letter(b: u8) -> bool
-    ensures { result ≡ within 97 102 b }
-{
-    if b < b'a' {
-        return false;
-    }
-    b <= b'f'
-}
-
-// No number: one that is greater than what 8 digits say.
-pub const NO_NUMBER: usize = 4294967296;
-
-// The number in the k digits from byte i on; no number where one of them is no digit. The tests stand here, and not in a function of
-// what a digit stands for: so the compiler leaves at the first byte that is none, with no second test.
-pub fn number(line: &[u8], i: usize, k: usize) -> usize
-    requires { NumberAt line.now i k }
-    ensures { NumberRead line.now i k result }
+// The number that at most 8 digits say, or none where a byte is no digit. The tests stand here, and not in a function of what a digit
+// stands for: so the compiler leaves at the first byte that is none, with no second test.
+#[tactic(auto, using(crate::proofs::DigitsRead::not_read, crate::proofs::DigitsRead::all_read))]
+pub fn number(digits: &[u8]) -> Option<usize>
+    requires { length digits.now ≤ 8 }
+    ensures { NumberRead digits.now result }
 {
     let mut n = 0;
-    let mut j = 0;
-    while j < k {
-        let b = line[i + j];
-        j += 1;
-        if is_numeral(b) {
-            n = n * 16 + (b as usize - 48);
-        } else {
-            if !is_letter(b) {
-                return NO_NUMBER;
-            }
-            n = n * 16 + (b as usize - 87);
+    for &b in digits {
+        match b {
+            b'0'..=b'9' => n = n * 16 + (b as usize - 48),
+            b'a'..=b'f' => n = n * 16 + (b as usize - 87),
+            _ => return None,
         }
     }
-    n
+    Some(n)
 }
 
-// Reads n characters, 2 digits each, from byte i on into the key. Gives whether each byte is a digit.
-pub fn characters(line: &[u8], i: usize, n: usize, key: &mut [u8]) -> bool
-    requires { CharactersAt line.now i n key.old }
-    ensures { CharactersRead line.now i n key.new result }
+// Reads characters, 2 digits each, into the key; none where a byte is no digit.
+pub fn characters(digits: &[u8], key: &mut [u8]) -> Option<()>
+    requires { length digits.now ≡ 2 * length key.old }
+    ensures { CharactersRead digits.now key.new result }
 {
-    let mut j = 0;
-    while j < n {
-        let b = number(line, i + 2 * j, 2);
-        if b == NO_NUMBER {
-            return false;
-        }
-        key[j] = b as u8;
-        j += 1;
+    for (i, pair) in digits.chunks_exact(2).enumerate() {
+        key[i] = number(pair)? as u8;
     }
-    true
+    Some(())
 }

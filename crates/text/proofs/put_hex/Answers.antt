@@ -6,12 +6,12 @@ use Rattle.rules.specs.Listing.{hex}
 use Rattle.text.proofs.Hexadecimal.{digits, each_digit, hex_step}
 use Rattle.text.proofs.put_hex.Goals as goal
 
-pub loop-left-preserved : goal.loop-left-preserved
+pub loop-i-preserved : goal.loop-i-preserved
 unfolding digits
-loop-left-preserved c =
-    let step = hex_step c.loop-left.out c.args.at c.loop-left.left c.loop-left.rest c.loop-left-test.true in
-    (omega (arith, c.loop-left.invariant.0), rw (each_digit (c.loop-left.rest % 16) (omega arith)) (step ∙ c.loop-left.invariant.1))
+loop-i-preserved c =
+    let step = hex_step c.loop-i.out c.args.at c.loop-i.i c.loop-i.rest c.loop-i-test.true in
+    rw (each_digit (c.loop-i.rest % 16) (omega arith)) (step ∙ c.loop-i.invariant)
 
 pub returns : goal.returns
 unfolding hex
-returns c = let z : c.loop-left.left ≡ 0 = omega (arith, c.loop-left-test.false) in rw z at c.loop-left.invariant.1
+returns c = let z : c.loop-i.i ≡ 0 = omega (arith, c.loop-i-test.false) in rw z at c.loop-i.invariant

@@ -3,15 +3,8 @@ use mathlib.Core.Path.{◌∙◌}
 use native.Mathlib.Omega.{arith}
 use lib.ListN.{drop_of_length-le}
 use Rattle.rules.specs.Listing.{hexes}
-use Rattle.rules.proofs.Digits.{length_hexes}
 use Rattle.text.proofs.Hexadecimal.{hexes_step}
 use Rattle.text.proofs.put_hexes.Goals as goal
-
-pub overflow_add-at : goal.overflow_add-at
-overflow_add-at c = omega (arith, rw length_hexes at c.requires.enough)
-
-pub put_hex-requires : goal.put_hex-requires
-put_hex-requires c = omega (arith, rw length_hexes at c.requires.enough)
 
 pub loop-i-preserved : goal.loop-i-preserved
 loop-i-preserved c =

@@ -1,11 +1,7 @@
--- `characters` reads character after character. The loop's invariant: what is left to read comes to the whole. The measure is the number
--- of characters left. Assumes nothing.
-use Prim.Native.Nat.{◌-◌}
+-- `characters` reads character after character. The loop's invariant: what is left to read comes to the whole. Assumes nothing.
+use mathlib.Core.Path.{◌≡◌}
 use Rattle.text.proofs.DigitsRead.{Spelling}
 use Rattle.text.proofs.reading.characters.Given as goal
 
-abbrev pub invariant-loop-j : goal.invariant-loop-j
-invariant-loop-j l = Spelling l.line l.i l.n l.key l.j
-
-abbrev pub decreases-loop-j : goal.decreases-loop-j
-decreases-loop-j l = l.n - l.j
+abbrev pub invariant-loop-i : goal.invariant-loop-i
+invariant-loop-i l = Spelling l.digits l.key l.i-iterator.iter.rest.now l.i-iterator.count × (l.i-iterator.iter.size ≡ 2)
