@@ -1,10 +1,10 @@
 -- A walk along a text by its first character: one without a code, one that leads nowhere, one that leads on. Assumes nothing.
 use mathlib.Core.Path.{◌≡◌}
 use mathlib.Core.Bool.{true}
-use mathlib.Core.List.{List, [], ◌∷◌}
+use mathlib.Core.List.{List, ◌∷◌}
 use Prim.Native.Nat.{ℕ, ◌≤◌, ◌<◌}
 use native.Mathlib.Omega.{arith}
-use lib.ListN.{length, get_or}
+use lib.ListN.{length}
 use lib.IntN.{ℤ}
 use lib.Dec.{leb}
 use borrow.Author.Tests.{le-leb, leb-true}
@@ -16,15 +16,13 @@ use Rattle.finding.proofs.Leading.{next_inside}
 
 -- From s with the character b.
 module _ (base check : List ℤ) (s b : ℕ) where
-  -- Its code is c.
-  module _ {c : ℕ} (is : c ≡ code_of b) where
-    pub uncoded_step : c ≡ 0 → 0 ≡ step_at base check s b
-    unfolding step_at
-    uncoded_step z = rw (← is, z)
+  pub uncoded_step : code_of b ≡ 0 → 0 ≡ step_at base check s b
+  unfolding step_at
+  uncoded_step z = rw z
 
-    pub coded_step : 1 ≤ c → {t : ℕ} → t ≡ next_at base check s c → t ≡ step_at base check s b
-    unfolding step_at
-    coded_step h to = rw (← is, le-leb 1 c h) to
+  pub coded_step : {c : ℕ} → c ≡ code_of b → 1 ≤ c → next_at base check s c ≡ step_at base check s b
+  unfolding step_at
+  coded_step {c} is h = rw (← is, le-leb 1 c h)
 
   pub step_inside : 1 ≤ length base → step_at base check s b < length base
   unfolding step_at
@@ -40,7 +38,6 @@ pub coded_on : (b : ℕ) (bs : List ℕ) → 1 ≤ code_of b → coded document0
 unfolding coded
 coded_on b bs h = rw (le-leb 1 (code_of b) h)
 
-pub coded_first : (text : List ℕ) → 0 < length text → coded document01 text ≡ true → 1 ≤ code_of (get_or text 0 0)
+pub coded_first : (b : ℕ) (bs : List ℕ) → coded document01 (b ∷ bs) ≡ true → 1 ≤ code_of b
 unfolding coded
-coded_first [] h k = absurd (omega arith)
-coded_first (b ∷ bs) h k = leb-true 1 (code_of b) (both (leb 1 (code_of b)) (coded document01 bs) k).0
+coded_first b bs k = leb-true 1 (code_of b) (both (leb 1 (code_of b)) (coded document01 bs) k).0

@@ -1,10 +1,16 @@
 -- What the walk below find promises, and the lookup that it is a part of. Both are asked of any text: they tell how far it has codes.
-use Rattle.std.specs.Prelude.{◌≡◌, true, cond, List, map, ℕ, ◌≤◌, ◌<◌, length, drop, ℤ, leb}
-use Rattle.rules.specs.declared.Answer.{Answer}
-use Rattle.rules.specs.declared.Answer.TheVariants.{Key}
-use Rattle.rules.specs.Answers.{found_or_absent}
+use Rattle.std.specs.Prelude.{◌≡◌, true, cond, List, map, ℕ, ◌≤◌, ◌<◌, length, drop, ℤ, leb, Option, Some, None, Err}
+use Rattle.rules.specs.declared.Refusal.TheVariants.{Key, Absent}
+use Rattle.rules.specs.declared.Row.{Row}
+use Rattle.rules.specs.Options.{some_row}
+use Rattle.rules.specs.Answers.{Answer, found, found_or_absent}
 use Rattle.rules.specs.WhatTheIndexDoes.{code_of, document01, coded, is_identifier}
 use Rattle.rules.specs.Finding.{Reached, next_at, walk_at, row_found}
+
+-- Done, with the row found; ABSENT where none is.
+abbrev pub found_in : Option Row → Answer
+found_in None = Err Absent
+found_in (Some row) = found row.0
 
 -- The cell that the walk reached, and how many characters were found.
 pub record Reaches (w : Reached) (cell met : ℕ) : Type 0 where
@@ -29,10 +35,10 @@ module _ (base check : List ℤ) where
     pub reaches : coded document01 key ≡ true → Reaches (walk_at base check 1 (map code_of key)) cell met
 
   -- The same, and the row found.
-  pub record LooksUp (key : List ℕ) (cell met row : ℕ) : Type 0 where
+  pub record LooksUp (key : List ℕ) (cell met : ℕ) (row : Option Row) : Type 0 where
     pub walked : Walked key cell met
-    pub row_is : coded document01 key ≡ true → row ≡ row_found base check document01 key
+    pub row_is : coded document01 key ≡ true → row ≡ some_row (row_found base check document01 key)
 
   -- KEY where the text is no identifier; otherwise the row found, or ABSENT.
   unfoldable pub row_or_key : List ℕ → Answer
-  row_or_key key = cond (is_identifier document01 key) (found_or_absent (row_found base check document01 key)) Key
+  row_or_key key = cond (is_identifier document01 key) (found_or_absent (row_found base check document01 key)) (Err Key)

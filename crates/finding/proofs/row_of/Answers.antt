@@ -1,15 +1,18 @@
--- `row_of` gives the row in the range of rows, or row 0. Assumes nothing.
-use mathlib.Core.Path.{◌≡◌, sym, ◌∙◌}
-use mathlib.Core.Bool.{true, false, and-false}
-use mathlib.Core.List.{List}
-use Prim.Native.Nat.{ℕ, ◌≤◌}
-use native.Mathlib.Omega.{arith}
-use lib.IntN.{ℤ}
+-- `row_of` gives the row in the range of rows. Assumes nothing.
+use Rattle.std.proofs.Common.{◌≡◌, ℕ, ◌≤◌, true, false, List, sym, ◌∙◌, arith}
+use Rattle.std.specs.Prelude.{ℤ}
+use mathlib.Core.Bool.{and-false}
 use borrow.Author.Tests.{le-leb}
 use Rattle.numbers.specs.Stored.{minus_at}
 use Rattle.rules.specs.WhatTheIndexDoes.{is_row}
 use Rattle.rules.specs.Finding.{row_of}
+use Rattle.rules.proofs.Ranges.{within_is}
+use Rattle.finding.proofs.Options.{then_row}
 use Rattle.finding.proofs.row_of.Goals as goal
+
+row_pos : {n : ℕ} → is_row n ≡ true → 1 ≤ n
+unfolding is_row
+row_pos {n} r = (within_is 1 1000000 n r).0
 
 -- Minus the element t of base is n.
 module _ (base : List ℤ) (t : ℕ) {n : ℕ} (is : n ≡ minus_at base t) where
@@ -21,12 +24,13 @@ module _ (base : List ℤ) (t : ℕ) {n : ℕ} (is : n ≡ minus_at base t) wher
   unfolding row_of
   out_of_range r = rw (← is, r, and-false)
 
-pub returns-then-at-eq0 : goal.returns-then-at-eq0
+pub returns-then-leaf-eq0 : goal.returns-then-leaf-eq0
 unfolding row_of
-returns-then-at-eq0 c = rw c.if-at-eq0.true
+returns-then-leaf-eq0 c = rw c.if-leaf-eq0.true
 
-pub returns-then-is_row : goal.returns-then-is_row
-returns-then-is_row c = in_range _ _ c.minus_at-n.ensures.is (omega arith) (sym c.is_row.ensures ∙ c.if-is_row.true)
-
-pub returns-else-is_row : goal.returns-else-is_row
-returns-else-is_row c = out_of_range _ _ c.minus_at-n.ensures.is (sym c.is_row.ensures ∙ c.if-is_row.false)
+pub returns : goal.returns
+returns c =
+    let is = c.at-n.ensures.is in
+    c.then_some.ensures ∙ then_row c.is_row.result
+    (λ e. (row_pos (sym c.is_row.ensures ∙ e), in_range _ _ is (omega arith) (sym c.is_row.ensures ∙ e)))
+    (λ e. out_of_range _ _ is (sym c.is_row.ensures ∙ e))
