@@ -29,15 +29,13 @@ pub fn seek(check: &[i32], size: usize, codes: &[usize]) -> usize
     let last = last_stored(check, size);
     let mut u = pass_over(check, last, span, numbers::minus_at(check, 0));
     while u <= last {
-        if low < u {
-            if opens(check, last, codes, u - low) {
-                return u - low;
-            }
+        if low < u && opens(check, last, codes, u - low) {
+            return u - low;
         }
         u = pass_over(check, last, span, numbers::known_minus(check, u));
     }
     // Past the chain's end every base opens.
-    if low <= size { size + 1 - low } else { 1 }
+    (size + 1).saturating_sub(low).max(1)
 }
 
 // Along the chain, from a cell on it, past the bases whose greatest cell is used: it lies span cells after the least.
@@ -46,10 +44,7 @@ fn pass_over(check: &[i32], last: usize, span: usize, from: usize) -> usize
     ensures { Passed check.now last span from result }
 {
     let mut u = from;
-    while u + span <= last {
-        if !numbers::is_plus_in(check, u + span) {
-            return u;
-        }
+    while u + span <= last && numbers::is_plus_in(check, u + span) {
         u = numbers::known_minus(check, u);
     }
     u
@@ -60,11 +55,7 @@ fn last_stored(check: &[i32], size: usize) -> usize
     requires { 0 < length check.now }
     ensures { LastStored check.now size result }
 {
-    if size < check.len() {
-        size
-    } else {
-        check.len() - 1
-    }
+    size.min(check.len() - 1)
 }
 
 // Whether the cell u is used. Cells past the last count as unused.
@@ -72,11 +63,7 @@ fn is_taken(check: &[i32], last: usize, u: usize) -> bool
     requires { last < length check.now }
     ensures { result ≡ taken_at check.now last u }
 {
-    if u <= last {
-        numbers::is_plus_in(check, u)
-    } else {
-        false
-    }
+    u <= last && numbers::is_plus_in(check, u)
 }
 
 // Whether every q + code is unused. The first code is tried last: most often it is the least, whose cell is on the chain.
@@ -84,11 +71,7 @@ fn opens(check: &[i32], last: usize, codes: &[usize], q: usize) -> bool
     requires { (last < length check.now) × (q ≤ 65536) × Codes codes.now }
     ensures { result ≡ opens (taken_at check.now last) codes.now q }
 {
-    if are_unused(check, last, &codes[1..], q) {
-        !is_taken(check, last, q + codes[0])
-    } else {
-        false
-    }
+    are_unused(check, last, &codes[1..], q) && !is_taken(check, last, q + codes[0])
 }
 
 // The same of codes in their order, which may be none.
@@ -96,43 +79,23 @@ fn are_unused(check: &[i32], last: usize, codes: &[usize], q: usize) -> bool
     requires { (last < length check.now) × (q ≤ 65536) × ((c : ℕ) → Among c codes.now → c ≤ GREATEST) }
     ensures { result ≡ opens (taken_at check.now last) codes.now q }
 {
-    let mut rest = codes;
-    while 0 < rest.len() {
-        if is_taken(check, last, q + rest[0]) {
-            return false;
-        }
-        rest = &rest[1..];
-    }
-    true
+    codes.iter().all(|code| !is_taken(check, last, q + *code))
 }
 
-// The least of some codes.
+// The least of some codes. A fold from the first one and not `min`, whose case of no codes would have the search read codes[0] anew
+// for each base that it tries.
 fn least(codes: &[usize]) -> usize
     requires { 0 < length codes.now }
     ensures { result ≡ least_of codes.now }
 {
-    let mut rest = &codes[1..];
-    let mut c = codes[0];
-    while 0 < rest.len() {
-        if rest[0] < c {
-            c = rest[0];
-        }
-        rest = &rest[1..];
-    }
-    c
+    codes[1..]
+        .iter()
+        .fold(codes[0], |least, code| least.min(*code))
 }
 
 // The greatest of some codes.
 pub fn greatest(codes: &[usize]) -> usize
     ensures { result ≡ greatest_of codes.now }
 {
-    let mut rest = codes;
-    let mut c = 0;
-    while 0 < rest.len() {
-        if c < rest[0] {
-            c = rest[0];
-        }
-        rest = &rest[1..];
-    }
-    c
+    codes.iter().copied().max().unwrap_or(0)
 }

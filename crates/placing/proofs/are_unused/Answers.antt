@@ -1,49 +1,31 @@
 -- `are_unused` says whether every q + code is unused. Assumes nothing.
-use mathlib.Core.Path.{◌≡◌, refl, sym, ◌∙◌}
-use mathlib.Core.Logic.{inl, inr}
-use mathlib.Core.Bool.{Bool, true, false}
-use mathlib.Core.List.{List}
-use Prim.Native.Nat.{ℕ, ◌+◌, ◌≤◌, ◌<◌}
-use native.Mathlib.Omega.{arith}
-use lib.ListN.{length, get_or}
+use Rattle.std.proofs.Common.{◌≡◌, ℕ, ◌+◌, ◌≤◌, ◌<◌, List, [], ◌∷◌, length, get_or, zero, suc, Bool, not, refl, inl, inr, ◌∙◌, arith, rules, tests}
+use Rattle.std.specs.List.{list_all}
+use Rattle.std.proofs.lemmas.Iterator.{YieldsList-from_slice}
+use Rattle.std.proofs.lemmas.Iterator.Adapters.{serves_from_places}
+use Rattle.std.proofs.lemmas.Iterator.Search.{all_from_yields_List}
 use Rattle.rules.specs.WhatTheIndexDoes.{GREATEST}
 use Rattle.rules.specs.Placement.{opens}
-use Rattle.rules.proofs.Texts.{behind, first_and_rest, none_left}
-use Rattle.placing.proofs.are_unused.Invariants.{Underway}
+use Rattle.tree.specs.Members.{Among}
+use Rattle.placing.specs.Search.{taken_at}
 use Rattle.placing.proofs.are_unused.Goals as goal
 
-module _ {used : ℕ → Bool} {q : ℕ} {left codes : List ℕ} (u : Underway used q left codes) where
-  ends : length left ≤ 0 → true ≡ opens used codes q
-  unfolding opens
-  ends h = rw (none_left left h) at u.same
+opens_all : (used : ℕ → Bool) (codes : List ℕ) (q : ℕ) → list_all (λ c. not (used (q + c))) codes ≡ opens used codes q
+unfolding opens
+opens_all used [] q = refl
+opens_all used (c ∷ codes) q = rw (opens_all used codes q)
 
-  module _ (h : 0 < length left) where
-    first_small : get_or left 0 0 ≤ GREATEST
-    first_small = (rw (first_and_rest left h) at u.small) _ (inl refl)
+among_at : (codes : List ℕ) (k d : ℕ) → k < length codes → Among (get_or codes k d) codes
+among_at [] k d h = absurd (omega arith)
+among_at (c ∷ codes) zero d h = inl refl
+among_at (c ∷ codes) (suc k) d h = inr (among_at codes k d (omega arith))
 
-    stops : used (q + get_or left 0 0) ≡ true → false ≡ opens used codes q
-    unfolding opens
-    stops t = rw (first_and_rest left h, t) at u.same
-
-    goes_on : used (q + get_or left 0 0) ≡ false → Underway used q (behind left) codes
-    unfolding opens
-    goes_on f = record {
-      same = rw (first_and_rest left h, f) at u.same;
-      small = λ c m. (rw (first_and_rest left h) at u.small) c (inr m);
-    }
-
-pub loop-rest-init : goal.loop-rest-init
-loop-rest-init c = record { same = refl; small = c.requires.2 }
-
-pub overflow_add-q : goal.overflow_add-q
-overflow_add-q c = omega (arith, first_small c.loop-rest.invariant (omega arith))
-
-pub returns-then-is_taken : goal.returns-then-is_taken
-returns-then-is_taken c = stops c.loop-rest.invariant (omega arith) (sym c.is_taken.ensures ∙ c.if-is_taken.true)
-
-pub loop-rest-preserved : goal.loop-rest-preserved
-loop-rest-preserved c = goes_on c.loop-rest.invariant (omega arith)
-    (sym c.is_taken.ensures ∙ c.if-is_taken.false)
+pub all-requires-clause-callable : goal.all-requires-clause-callable
+all-requires-clause-callable c =
+    serves_from_places (YieldsList-from_slice c.args.codes.now cc) (λ x q k. search rules) (λ x k h e.
+    let near : x.now ≤ GREATEST = c.requires.2 x.now (rw e (among_at c.args.codes.now k x.now h)) in search rules)
 
 pub returns : goal.returns
-returns c = ends c.loop-rest.invariant c.loop-rest-test.false
+returns c =
+    all_from_yields_List (λ k. not (taken_at c.args.check.now c.args.last (c.args.q + k))) _ _ _ c.all.ensures.ran (YieldsList-from_slice c.args.codes.now cc)
+    (λ x b q k. search (rules, tests)) ∙ opens_all _ c.args.codes.now _

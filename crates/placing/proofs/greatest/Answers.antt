@@ -1,27 +1,24 @@
 -- `greatest` gives the greatest code. Assumes nothing.
-use mathlib.Core.Path.{◌≡◌, ap}
-use mathlib.Core.List.{List}
-use Prim.Native.Nat.{ℕ, ◌≤◌, ◌<◌, max}
-use native.Mathlib.Omega.{arith}
-use lib.ListN.{length, get_or}
+use Rattle.std.proofs.Common.{◌≡◌, ℕ, max, List, [], ◌∷◌, sym, ◌∙◌, arith}
+use Rattle.std.specs.List.{reduce, fold}
+use Rattle.std.specs.Option.{unwrap_or}
+use Rattle.std.proofs.lemmas.Iterator.{YieldsList-from_slice}
+use Rattle.std.proofs.lemmas.Iterator.Adapters.{option_map_id}
+use Rattle.std.proofs.lemmas.Iterator.Consumers.{YieldsList-from_copied, max_from_yields_List}
 use Rattle.rules.specs.Placement.{greatest_of}
-use Rattle.rules.proofs.Texts.{behind, first_and_rest, none_left}
-use Rattle.placing.proofs.greatest.Goals.{else-c-rest, then-c-rest}
 use Rattle.placing.proofs.greatest.Goals as goal
 
-greatest_first : (codes : List ℕ) → 0 < length codes → greatest_of codes ≡ max (get_or codes 0 0) (greatest_of (behind codes))
+greatest_folds : (c : ℕ) (codes : List ℕ) → fold max c codes ≡ max c (greatest_of codes)
 unfolding greatest_of
-greatest_first codes h = ap greatest_of (first_and_rest codes h)
+greatest_folds c [] = omega arith
+greatest_folds c (d ∷ codes) = omega (arith, greatest_folds (max c d) codes)
 
-greatest_none : (codes : List ℕ) → length codes ≤ 0 → greatest_of codes ≡ 0
+greatest_reduced : (codes : List ℕ) (r : ℕ) → r ≡ unwrap_or (reduce max codes) 0 → r ≡ greatest_of codes
 unfolding greatest_of
-greatest_none codes h = ap greatest_of (none_left codes h)
-
-pub loop-rest-preserved : goal.loop-rest-preserved
-loop-rest-preserved c =
-    let rest : List ℕ = c.loop-rest.rest.now in
-    let e = greatest_first rest (omega arith) in
-    elim c.if-c-rest.branch [ then-c-rest w ↦ omega arith | else-c-rest w ↦ omega arith ]
+greatest_reduced [] r e = e
+greatest_reduced (c ∷ codes) r e = e ∙ greatest_folds c codes
 
 pub returns : goal.returns
-returns c = omega (arith, greatest_none c.loop-rest.rest.now (omega arith))
+returns c =
+    let e = sym (option_map_id c.max.result) ∙ max_from_yields_List _ _ c.max.ensures.ran (YieldsList-from_copied (YieldsList-from_slice c.args.codes.now cc)) in
+    greatest_reduced c.args.codes.now _ (rw (← e) c.unwrap_or.ensures)

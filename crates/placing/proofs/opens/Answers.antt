@@ -40,4 +40,4 @@ returns-then-are_unused c = ap not c.is_taken.ensures ∙ first_decides c.requir
     (sym c.are_unused.ensures ∙ c.if-are_unused.true)
 
 pub returns-else-are_unused : goal.returns-else-are_unused
-returns-else-are_unused c = rest_decides c.requires.2 _ _ (sym c.are_unused.ensures ∙ c.if-are_unused.false)
+returns-else-are_unused c = c.if-are_unused.false ∙ rest_decides c.requires.2 _ _ (sym c.are_unused.ensures ∙ c.if-are_unused.false)

@@ -6,7 +6,7 @@ use Rattle.rules.specs.Placement.{opens}
 use Rattle.tree.proofs.Placement.{greatest_within}
 use Rattle.placing.proofs.Seeking.{starts, goes_on, found, ended}
 use Rattle.placing.proofs.GreatestFirst.{least_greatest, some_stored, taken_same, opens_same, past_size, passes}
-use Rattle.placing.proofs.seek.Goals.{then-low-u+else-opens, else-low-u}
+use Rattle.placing.proofs.seek.Goals.{else-low-u-via-then-low-u+else-opens, else-low-u-via-else-low-u}
 use Rattle.placing.proofs.seek.Goals as goal
 
 pub least-low-requires : goal.least-low-requires
@@ -66,19 +66,13 @@ loop-u-preserved c =
     let l = c.last_stored-last.ensures in
     λ m ch. c.pass_over-u-in-loop-u.ensures.arrives m _ c.args.codes.now ch l some
     (omega (arith, least_greatest c.args.codes.now some)) (rw c.known_minus.ensures.is
-    (goes_on _ ch (c.loop-u.invariant m ch) (omega arith) (λ q h e. rw (← taken_same l) (elim c.if-low-u.branch [
-      | then-low-u+else-opens w ↦ ap (opens _ _) (omega arith) ∙ sym w.opens.ensures ∙ w.if-opens.false
-      | else-low-u w ↦ absurd (omega arith)
+    (goes_on _ ch (c.loop-u.invariant m ch) (omega arith) (λ q h e. rw (← taken_same l) (elim c.else-low-u.branch [
+      | else-low-u-via-then-low-u+else-opens w ↦ ap (opens _ _) (omega arith) ∙ sym w.opens.ensures ∙ w.if-opens.false
+      | else-low-u-via-else-low-u w ↦ absurd (omega arith)
     ]))))
 
-pub returns-then-low-size : goal.returns-then-low-size
-returns-then-low-size c = λ m ch.
-    let l = c.loop-u in
-    ended _ (l.invariant m ch) _ (past_size c.last_stored-last.ensures l.u (omega arith)
-    (λ h. omega (arith, ch.link l.u h ((l.invariant m ch).on h)))) (omega arith)
-
-pub returns-else-low-size : goal.returns-else-low-size
-returns-else-low-size c = λ m ch.
+pub returns : goal.returns
+returns c = λ m ch.
     let l = c.loop-u in
     ended _ (l.invariant m ch) _ (past_size c.last_stored-last.ensures l.u (omega arith)
     (λ h. omega (arith, ch.link l.u h ((l.invariant m ch).on h)))) (omega arith)
