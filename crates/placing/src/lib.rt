@@ -8,13 +8,15 @@ ghost use Rattle.rules.specs.Placement.{least_of, greatest_of, opens};
 ghost use Rattle.tree.specs.Members.{Among};
 ghost use Rattle.placing.specs.Search.{taken_at, Codes, LastStored, Passes, Passed, Searches, Finds};
 
+use numbers::{Minus, Plus};
+
 // What the inner search finds at the size that base[0] states. Where the chain names every free cell, that is the placed base; but
 // this promise is the search's own, chains with gaps included, so that trying 1, 2, 3 and upward does not meet it.
 pub fn place(base: &[i32], check: &[i32], codes: &[usize]) -> usize
     requires { Searches check.now (size_at base.now) codes.now }
     ensures { Finds check.now (size_at base.now) codes.now result }
 {
-    seek(check, numbers::plus_at(base, 0), codes)
+    seek(check, numbers::at::<Plus>(base, 0), codes)
 }
 
 // The inner search, along any ascending chain of free cells that ends at size + 1: the smallest q of 1 or more whose least
@@ -27,12 +29,12 @@ pub fn seek(check: &[i32], size: usize, codes: &[usize]) -> usize
     let low = least(codes);
     let span = greatest(codes) - low;
     let last = last_stored(check, size);
-    let mut u = pass_over(check, last, span, numbers::minus_at(check, 0));
+    let mut u = pass_over(check, last, span, numbers::at::<Minus>(check, 0));
     while u <= last {
         if low < u && opens(check, last, codes, u - low) {
             return u - low;
         }
-        u = pass_over(check, last, span, numbers::known_minus(check, u));
+        u = pass_over(check, last, span, numbers::known::<Minus>(check, u));
     }
     // Past the chain's end every base opens.
     (size + 1).saturating_sub(low).max(1)
@@ -45,7 +47,7 @@ fn pass_over(check: &[i32], last: usize, span: usize, from: usize) -> usize
 {
     let mut u = from;
     while u + span <= last && numbers::is_plus_in(check, u + span) {
-        u = numbers::known_minus(check, u);
+        u = numbers::known::<Minus>(check, u);
     }
     u
 }

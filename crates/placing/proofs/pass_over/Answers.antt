@@ -16,8 +16,8 @@ overflow_add-u-in-loop-u c = let p = c.loop-u.invariant.0 in omega (arith, p.wit
 pub is_plus_in-requires : goal.is_plus_in-requires
 is_plus_in-requires c = omega (arith, c.loop-u.invariant.0.stored.inside)
 
-pub known_minus-u-requires : goal.known_minus-u-requires
-known_minus-u-requires c = omega (arith, linked c.loop-u.invariant.0 (omega arith))
+pub known-u-requires : goal.known-u-requires
+known-u-requires c = omega (arith, linked c.loop-u.invariant.0 (omega arith))
 
 pub loop-u-smaller : goal.loop-u-smaller
 loop-u-smaller c = omega (arith, linked c.loop-u.invariant.0 (omega arith))
@@ -25,5 +25,5 @@ loop-u-smaller c = omega (arith, linked c.loop-u.invariant.0 (omega arith))
 pub loop-u-preserved : goal.loop-u-preserved
 loop-u-preserved c =
     let i = c.loop-u.invariant in
-    rw c.known_minus-u.ensures.is
+    rw c.known-u.ensures.is
     (passes_on i.0 (omega arith), passed_on i.0 i.1 (omega arith) (was_yes _ c.is_plus_in.ensures c.if-is_plus_in.true))

@@ -2,7 +2,7 @@
 use Rattle.placing.proofs.place.Goals as goal
 
 pub seek-requires : goal.seek-requires
-seek-requires c = rw c.plus_at.ensures.is c.requires
+seek-requires c = rw c.at.ensures.is c.requires
 
 pub returns : goal.returns
-returns c = rw (← c.plus_at.ensures.is) c.seek.ensures
+returns c = rw (← c.at.ensures.is) c.seek.ensures

@@ -22,14 +22,14 @@ last_stored-last-requires c = some_stored c.requires.chain
 pub pass_over-u-requires : goal.pass_over-u-requires
 pass_over-u-requires c =
     let p = c.requires in
-    rw c.minus_at.ensures.is (passes p.chain c.last_stored-last.ensures p.small
+    rw c.at.ensures.is (passes p.chain c.last_stored-last.ensures p.small
     (omega (arith, greatest_within c.args.codes.now GREATEST p.wanted.small)) (omega arith) p.chain.header)
 
 pub loop-u-init : goal.loop-u-init
 loop-u-init c =
     let some = c.requires.wanted.some in
     λ m ch. c.pass_over-u.ensures.arrives m _ c.args.codes.now ch c.last_stored-last.ensures some
-    (omega (arith, least_greatest c.args.codes.now some)) (rw c.minus_at.ensures.is (starts _ ch))
+    (omega (arith, least_greatest c.args.codes.now some)) (rw c.at.ensures.is (starts _ ch))
 
 pub opens-requires : goal.opens-requires
 opens-requires c =
@@ -40,8 +40,8 @@ pub returns-then-opens : goal.returns-then-opens
 returns-then-opens c = λ m ch. found _ (c.loop-u.invariant m ch) _ (omega arith) (omega arith) (omega arith)
     (sym (opens_same c.last_stored-last.ensures _ _) ∙ sym c.opens.ensures ∙ c.if-opens.true)
 
-pub known_minus-requires : goal.known_minus-requires
-known_minus-requires c =
+pub known-requires : goal.known-requires
+known-requires c =
     let p = c.requires in
     let l = c.loop-u in
     omega (arith, p.chain.link l.u (omega arith) ((l.invariant p.cells p.chain).on (omega arith)))
@@ -50,7 +50,7 @@ pub pass_over-u-requires-in-loop-u : goal.pass_over-u-requires-in-loop-u
 pass_over-u-requires-in-loop-u c =
     let p = c.requires in
     let l = c.loop-u in
-    rw c.known_minus.ensures.is (passes p.chain c.last_stored-last.ensures p.small
+    rw c.known.ensures.is (passes p.chain c.last_stored-last.ensures p.small
     (omega (arith, greatest_within c.args.codes.now GREATEST p.wanted.small)) (omega arith)
     ((l.invariant p.cells p.chain).on (omega arith)))
 
@@ -65,7 +65,7 @@ loop-u-preserved c =
     let some = c.requires.wanted.some in
     let l = c.last_stored-last.ensures in
     λ m ch. c.pass_over-u-in-loop-u.ensures.arrives m _ c.args.codes.now ch l some
-    (omega (arith, least_greatest c.args.codes.now some)) (rw c.known_minus.ensures.is
+    (omega (arith, least_greatest c.args.codes.now some)) (rw c.known.ensures.is
     (goes_on _ ch (c.loop-u.invariant m ch) (omega arith) (λ q h e. rw (← taken_same l) (elim c.else-low-u.branch [
       | else-low-u-via-then-low-u+else-opens w ↦ ap (opens _ _) (omega arith) ∙ sym w.opens.ensures ∙ w.if-opens.false
       | else-low-u-via-else-low-u w ↦ absurd (omega arith)
