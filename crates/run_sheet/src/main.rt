@@ -7,7 +7,8 @@
 ghost use Rattle.std.specs.Prelude.{◌*◌, ◌≤◌, length};
 ghost use Rattle.run_sheet.specs.Turns.{Ready, ReadBehind, Reached, Taken};
 
-use std::io::{Read, Stderr, Stdin, Stdout, Write};
+use std::fmt;
+use std::io::{Read, Stdin, Stdout, Write};
 
 // The elements of the table.
 const LENGTH: usize = 4096;
@@ -18,130 +19,112 @@ const PART: usize = 4096;
 // Room for as many answers as a part can have lines.
 const ROOM: usize = 11 * PART;
 
-// The program's three streams.
+// What the program works on: the table, a part of the sheet with so many bytes carried over in front, and the part's answers.
+#[derive(Drop)]
+struct Desk {
+    base: [i32; LENGTH],
+    check: [i32; LENGTH],
+    buffer: [u8; PART],
+    held: usize,
+    answers: [u8; ROOM],
+}
+
+// How many lines a turn answered.
 #[derive(Clone, Copy)]
-struct Streams {
-    input: Stdin,
-    output: Stdout,
-    errors: Stderr,
+enum Turn {
+    // Those that a part finished; the sheet goes on.
+    Part(usize),
+    // The sheet has ended: at most the one without a line feed.
+    Last(usize),
+}
+
+// Why the sheet is not answered to its end.
+#[derive(Clone, Copy, Debug, PartialEq, Eq)]
+enum Failure {
+    Read,
+    Write,
+    TooManyParts,
+}
+
+impl fmt::Display for Failure {
+    // The whole line is one text, so that it is one write.
+    fn fmt<W: fmt::Write>(&self, f: &mut fmt::Formatter<W>) -> fmt::Result {
+        f.write_str(match self {
+            Failure::Read => "run_sheet: standard input could not be read\n",
+            Failure::Write => "run_sheet: standard output could not be written\n",
+            Failure::TooManyParts => "run_sheet: the sheet has too many parts\n",
+        })
+    }
 }
 
 fn main(rt: HostRuntime) {
-    let mut base = [0i32; LENGTH];
-    let mut check = [0i32; LENGTH];
-    let mut buffer = [0u8; PART];
-    let mut answers = [0u8; ROOM];
-    let streams = Streams {
-        input: rt.stdin(),
-        output: rt.stdout(),
-        errors: rt.stderr(),
+    let mut desk = Desk {
+        base: [0; LENGTH],
+        check: [0; LENGTH],
+        buffer: [0; PART],
+        held: 0,
+        answers: [0; ROOM],
     };
-    index::fresh(&mut base, &mut check);
-    answer_all(streams, &mut base, &mut check, &mut buffer, &mut answers);
+    index::fresh(&mut desk.base, &mut desk.check);
+    if let Err(failure) = answer_all(rt.stdin(), rt.stdout(), &mut desk) {
+        let mut errors = rt.stderr();
+        let _ = write!(errors, "{failure}");
+    }
 }
 
 // Has part after part answered and writes the answers, until the sheet ends. A proved loop has to end, and nothing says that a sheet
-// does: so the turns are counted down, from a number that no run uses up.
-fn answer_all(
-    streams: Streams,
-    base: &mut [i32],
-    check: &mut [i32],
-    buffer: &mut [u8],
-    answers: &mut [u8],
-)
-    requires { Ready base.old check.old buffer.old 0 answers.old }
+// does: so the turns are counted, up to a number that no run comes to.
+fn answer_all(mut input: Stdin, mut output: Stdout, desk: &mut Desk) -> Result<(), Failure>
+    requires { Ready desk.old }
 {
-    let mut held = 0;
-    let mut turns = u64::MAX;
-    while 0 < turns {
-        turns -= 1;
-        let got = read(streams, buffer, held);
-        let turn = answer_part(base, check, buffer, held, got, answers);
-        match turn {
-            Turn::Part(lines, carried) => {
-                if !write(streams, answers, lines) {
-                    return;
-                }
-                held = carried;
-            }
-            Turn::Last(lines) => {
-                write(streams, answers, lines);
-                return;
-            }
-            Turn::Failed => {
-                say(streams, b"run_sheet: standard input could not be read\n");
-                return;
-            }
+    for _ in 0..u64::MAX {
+        let got = read(&mut input, &mut desk.buffer, desk.held);
+        match desk.answer_part(got)? {
+            Turn::Part(lines) => write(&mut output, &desk.answers, lines)?,
+            Turn::Last(lines) => return write(&mut output, &desk.answers, lines),
         }
     }
-    say(streams, b"run_sheet: the sheet has too many parts\n");
+    Err(Failure::TooManyParts)
 }
 
-// What came of a turn.
-#[derive(Clone, Copy)]
-pub enum Turn {
-    // So many lines were answered, and so many bytes are carried over.
-    Part(usize, usize),
-    // The sheet has ended; so many lines were answered, at most the one without a line feed.
-    Last(usize),
-    // The sheet could not be read.
-    Failed,
-}
-
-// Reads once, behind what is carried over; gives the number of bytes that were read, or -1 where the read failed.
-fn read(streams: Streams, buffer: &mut [u8], held: usize) -> isize
+// Reads once, behind what is carried over; gives the number of bytes that were read.
+fn read(input: &mut Stdin, buffer: &mut [u8], held: usize) -> Result<usize, Failure>
     requires { held ≤ length buffer.old }
     ensures { ReadBehind buffer.old held result buffer.new }
 {
-    let mut input = streams.input;
-    match input.read(&mut buffer[held..]) {
-        Ok(got) => got as isize,
-        Err(_) => -1,
+    input.read(&mut buffer[held..]).map_err(|_| Failure::Read)
+}
+
+impl Desk {
+    // Answers the lines that are finished with what was read behind what is carried over; or what is carried over, where nothing was
+    // read, for then the sheet has ended.
+    fn answer_part(&mut self, got: Result<usize, Failure>) -> Result<Turn, Failure>
+        requires { Reached self.old got }
+        ensures { Taken self.old got self.new result }
+    {
+        let n = self.held + got?;
+        if n == self.held {
+            let rest = &self.buffer[..self.held];
+            let lines = sheets::answer(&mut self.base, &mut self.check, rest, &mut self.answers);
+            return Ok(Turn::Last(lines));
+        }
+        let part = parts::answer(
+            &mut self.base,
+            &mut self.check,
+            &mut self.buffer,
+            n,
+            &mut self.answers,
+        );
+        self.held = part.held;
+        Ok(Turn::Part(part.lines))
     }
 }
 
-// Answers the lines that are finished with what was read behind what is carried over; or what is carried over, where nothing was read,
-// for then the sheet has ended.
-fn answer_part(
-    base: &mut [i32],
-    check: &mut [i32],
-    buffer: &mut [u8],
-    held: usize,
-    got: isize,
-    answers: &mut [u8],
-) -> Turn
-    requires { Reached base.old check.old buffer.old held got answers.old }
-    ensures { Taken base.old check.old buffer.old held got answers.old base.new check.new buffer.new answers.new result }
-{
-    if got < 0 {
-        return Turn::Failed;
-    }
-    let n = held + got as usize;
-    if n == held {
-        return Turn::Last(sheets::answer(base, check, &buffer[..held], answers));
-    }
-    let part = parts::answer(base, check, buffer, n, answers);
-    Turn::Part(part.lines, part.held)
-}
-
-// Writes so many answers; gives whether all of them were taken, and says so where they were not.
-fn write(streams: Streams, answers: &[u8], lines: usize) -> bool
+// Writes so many answers.
+fn write(output: &mut Stdout, answers: &[u8], lines: usize) -> Result<(), Failure>
     requires { 11 * lines ≤ length answers.now }
 {
-    let bytes = 11 * lines;
-    let mut output = streams.output;
-    let done = output.write_all(&answers[..bytes]).is_ok();
-    if !done {
-        say(
-            streams,
-            b"run_sheet: standard output could not be written\n",
-        );
-    }
-    done
-}
-
-// Says why the sheet is not answered to its end.
-fn say(streams: Streams, why: &[u8]) {
-    let mut errors = streams.errors;
-    let _ = errors.write_all(why);
+    output
+        .write_all(&answers[..11 * lines])
+        .map_err(|_| Failure::Write)
 }
