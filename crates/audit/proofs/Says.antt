@@ -1,6 +1,6 @@
 -- Laws of a yes or no and what it is about. Assumes nothing.
 use mathlib.Core.Path.{◌≡◌, refl, sym, ◌∙◌}
-use mathlib.Core.Bool.{Bool, true, false, true≢false}
+use mathlib.Core.Bool.{Bool, true, false, ◌&&◌, true≢false}
 use Prim.Native.Nat.{ℕ, ◌≤◌}
 use native.Mathlib.Omega.{arith}
 use lib.Dec.{leb}
@@ -15,6 +15,11 @@ module _ {A : Type 0} where
   -- The same answer, about what is so exactly if A is.
   pub says_too : {B : Type 0} {r : Bool} → Says A r → (A → B) → (B → A) → Says B r
   says_too s f g = record { yes = λ e. f (s.yes e); no = λ e b. s.no e (g b) }
+
+-- Two answers together.
+pub says_both : {A B : Type 0} {r s : Bool} → Says A r → Says B s → Says (A × B) (r && s)
+says_both {r = true} a b = record { yes = λ e. (a.yes refl, b.yes e); no = λ e f. b.no e f.1 }
+says_both {r = false} a b = says_no (λ f. a.no refl f.0)
 
 -- ---- tests
 

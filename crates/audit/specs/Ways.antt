@@ -1,9 +1,9 @@
 -- The ways from parent to parent up to the root.
-use Rattle.std.specs.Prelude.{◌≡◌, ◌⊎◌, Bool, true, false, List, ℕ, suc, ◌≤◌, ◌<◌, length, get_or, ℤ, leb}
+use Rattle.std.specs.Prelude.{◌≡◌, ◌⊎◌, Bool, true, false, List, ℕ, suc, ◌≤◌, ◌<◌, length, get_or, ℤ, leb, Option, MatchOption}
 use Rattle.numbers.specs.Stored.{plus_at}
 use Rattle.rules.specs.WhatTheIndexDoes.{Profile}
 use Rattle.rules.specs.ASoundTable.{home, has_child}
-use Rattle.audit.specs.Kept.{Sized, FirstKept}
+use Rattle.audit.specs.Kept.{FirstKept}
 use Rattle.audit.specs.Marks.{MarksPast}
 
 -- The most steps that a cell of a sound table is away from the root: an identifier's characters and its end mark.
@@ -34,11 +34,15 @@ pub record Starts (check : List ℤ) (t : ℕ) (depths : List ℕ) : Type 0 wher
   pub far : 2 ≤ t
   pub used : 1 ≤ plus_at check t
 
--- What it gives: how deep t lies, or 0 where that is more than the most.
-pub record Climbed (P : Profile) (check : List ℤ) (t r : ℕ) : Type 0 where
-  pub lost : r ≡ 0 → home check (most P) t ≡ false
-  pub found : 1 ≤ r → Depth check t r
-  pub small : r ≤ most P
+-- A depth of t that a climb can find: no less than one step, and no more than the most.
+pub record Found (P : Profile) (check : List ℤ) (t d : ℕ) : Type 0 where
+  pub deep : Depth check t d
+  pub some : 1 ≤ d
+  pub small : d ≤ most P
+
+-- What a climb gives: how deep t lies, or none where that is more than the most.
+abbrev pub Climbed : Profile → List ℤ → ℕ → Option ℕ → Type 0
+Climbed P check t r = MatchOption r (home check (most P) t ≡ false) (Found P check t)
 
 module _ (P : Profile) (base check : List ℤ) where
   -- What is left of rules 6 and 7 at a used cell t other than the root: an inner cell has a child, and t comes to the root within
@@ -58,10 +62,8 @@ pub record FirstLook (base check : List ℤ) (size : ℕ) (parents : List Bool) 
   pub marks : MarksPast base check size parents
   pub notes : NotedBelow check size 2 depths
 
--- What is known before they are looked at for the second time: the arrays have one length, and every parent is used and marked.
+-- What is known before they are looked at for the second time: every parent is used and marked.
 pub record SecondLook (base check : List ℤ) (size : ℕ) (parents : List Bool) (depths : List ℕ) : Type 0 where
-  pub same : length base ≡ length check
-  pub sized : Sized base size
   pub closed : Closed check
   pub marks : MarksPast base check 1 parents
   pub notes : NotedBelow check size 2 depths

@@ -11,251 +11,192 @@ ghost use Rattle.audit.specs.Kept.{Sized, Nought, PastNought, FirstKept, FreeKep
 ghost use Rattle.audit.specs.Marks.{marked, MarksPast, CellsMarked};
 ghost use Rattle.audit.specs.Ways.{Starts, Climbed, WaysUpTo, FirstLook, SecondLook};
 
-use rules::{Alphabet, Cell};
+use numbers::{Minus, Plus, Side};
+use rules::{Alphabet, Arrays, Cell, LIMIT, LONGEST};
 
 // Whether the two arrays hold a sound table.
-pub fn is_sound(base: &[i32], check: &[i32]) -> bool
-    ensures { result ≡ sound document01 base.now check.now }
+pub fn is_sound(arrays: Arrays) -> bool
+    ensures { result ≡ sound document01 arrays.entry.base.now arrays.entry.check.now }
 {
-    if !rules::right_lengths(base, check) {
+    let Arrays { base, check } = arrays;
+    let size = numbers::at::<Plus>(base, 0);
+    if size == 0 || base.len() <= size {
         return false;
     }
-    let size = numbers::plus_at(base, 0);
-    if size == 0 {
-        return false;
-    }
-    if base.len() <= size {
-        return false;
-    }
-    if !is_past_nought(base, check, size) {
+    let stated = Stated { base, check, size };
+    if !stated.is_past_nought() {
         return false;
     }
     if size < SMALL {
-        are_rules_kept_small(base, check, size)
+        stated.are_rules_kept_in::<SMALL>()
     } else {
-        are_rules_kept_large(base, check, size)
+        stated.are_rules_kept_in::<LONGEST>()
     }
 }
 
 // A table whose size is below this gets small marks and notes: to clear the large ones costs more than to audit a small table.
 const SMALL: usize = 4096;
 
-// Rules 2 to 7 of a small table, where rule 1 holds.
-fn are_rules_kept_small(base: &[i32], check: &[i32], size: usize) -> bool
-    requires first_kept { FirstKept base.now check.now size }
-    requires small { size < 4096 }
-    ensures { result ≡ sound document01 base.now check.now }
-{
-    let mut marks = [false; SMALL];
-    let mut notes = [0u8; SMALL];
-    are_rules_kept(base, check, size, &mut marks, &mut notes)
-}
+// The most steps that a cell of a sound table is away from the root: an identifier's characters and its end mark.
+const MOST: usize = LIMIT + 1;
 
-// Rules 2 to 7 of a table of any size, where rule 1 holds.
-fn are_rules_kept_large(base: &[i32], check: &[i32], size: usize) -> bool
-    requires { FirstKept base.now check.now size }
-    ensures { result ≡ sound document01 base.now check.now }
-{
-    let mut marks = [false; rules::LONGEST];
-    let mut notes = [0u8; rules::LONGEST];
-    are_rules_kept(base, check, size, &mut marks, &mut notes)
-}
-
-// Rules 2 to 7, with marks and notes as they are before the first look at the cells.
-fn are_rules_kept(
-    base: &[i32],
-    check: &[i32],
+// The arrays, and the size that base[0] states.
+#[derive(Clone, Copy)]
+struct Stated<'a> {
+    base: &'a [i32],
+    check: &'a [i32],
     size: usize,
-    parents: &mut [bool],
-    depths: &mut [u8],
-) -> bool
-    requires { FirstLook base.now check.now size parents.old depths.old }
-    ensures { result ≡ sound document01 base.now check.now }
-{
-    if !are_cells_kept(base, check, size, parents) {
-        return false;
-    }
-    if !is_root_kept(base, check, parents) {
-        return false;
-    }
-    are_ways_kept(base, check, size, parents, depths)
+    ghost sized: { Sized base.now size },
+    ghost same_length: { length base.now ≡ length check.now },
 }
 
-// Rule 1: whether every cell past the size is 0 in both arrays.
-fn is_past_nought(base: &[i32], check: &[i32], size: usize) -> bool
-    requires sized { Sized base.now size }
-    requires same_length { length base.now ≡ length check.now }
-    ensures { Says (PastNought base.now check.now) result }
-{
-    let mut t = base.len() - 1;
-    while size < t {
-        if !numbers::are_nought_in(base, check, t) {
+impl<'a> Stated<'a> {
+    // Rules 2 to 7 of a table whose size is below N, where rule 1 holds.
+    fn are_rules_kept_in<const N: usize>(self) -> bool
+        requires first_kept { FirstKept self.base.now self.check.now self.size }
+        requires room { self.size < N }
+        requires fits { N ≤ 65536 }
+        ensures { result ≡ sound document01 self.entry.base.now self.entry.check.now }
+    {
+        let mut marks = [false; N];
+        let mut notes = [0u8; N];
+        self.are_rules_kept(&mut marks, &mut notes)
+    }
+
+    // Rules 2 to 7, with marks and notes as they are before the first look at the cells.
+    fn are_rules_kept(self, parents: &mut [bool], depths: &mut [u8]) -> bool
+        requires { FirstLook self.base.now self.check.now self.size parents.old depths.old }
+        ensures { result ≡ sound document01 self.entry.base.now self.entry.check.now }
+    {
+        self.are_cells_kept(parents)
+            && self.is_root_kept(parents)
+            && self.are_ways_kept(parents, depths)
+    }
+
+    // Rule 1: whether every cell past the size is 0 in both arrays.
+    fn is_past_nought(self) -> bool
+        ensures { Says (PastNought self.entry.base.now self.entry.check.now) result }
+    {
+        (self.size + 1..self.base.len()).all(|t| numbers::are_nought_in(self.base, self.check, t))
+    }
+
+    // Rules 2, 3 and 5, and what rules 6 and 7 say of a cell and its parent alone, at every cell but the root. The cells are
+    // looked at downwards, so that the next greater free cell is the one met last. Each parent is marked on the way.
+    fn are_cells_kept(self, parents: &mut [bool]) -> bool
+        requires { MarksPast self.base.now self.check.now self.size parents.old }
+        ensures { CellsMarked document01 self.entry.base.now self.entry.check.now parents.new result }
+    {
+        let mut next = self.size + 1;
+        for t in (2..self.size + 1).rev() {
+            if numbers::is_plus_in(self.check, t) {
+                let parent = numbers::known::<Plus>(self.check, t);
+                if !self.is_used_kept(Cell(t), Cell(parent)) {
+                    return false;
+                }
+                parents[parent] = true;
+            } else {
+                if !self.is_free_kept(Cell(t), Cell(next)) {
+                    return false;
+                }
+                next = t;
+            }
+        }
+        numbers::at::<Minus>(self.check, 0) == next
+    }
+
+    // Rules 2 and 3 at a cell that is not used, with the next greater free cell.
+    fn is_free_kept(self, t: Cell, next: Cell) -> bool
+        ensures { Says (FreeKept self.entry.base.now self.entry.check.now t.0 next.0) result }
+    {
+        numbers::at::<Minus>(self.check, t.0) == next.0 && is_nought(self.base, t)
+    }
+
+    // Rule 5, rule 6 but for the child, and rule 7's two steps at least of a leaf, at a used cell other than the root, with its
+    // parent. A parent up to the size that has a positive base is used, for a free cell's base is 0; that it is another cell
+    // follows from the climb.
+    fn is_used_kept(self, t: Cell, parent: Cell) -> bool
+        requires { t.0 ≤ self.size }
+        ensures { Says (UsedKept document01 self.entry.base.now t.0 parent.0) result }
+    {
+        if self.size < parent.0 || !numbers::is_plus_in(self.base, parent.0) {
             return false;
         }
-        t -= 1;
+        let q = numbers::known::<Plus>(self.base, parent.0);
+        if t.0 <= q {
+            return false;
+        }
+        match t.0 - q {
+            Alphabet::END => parent.0 != 1 && rules::is_row(Minus::read(self.base[t.0])),
+            2..=Alphabet::GREATEST => numbers::is_plus_in(self.base, t.0),
+            _ => false,
+        }
     }
-    true
+
+    // Rule 4, where every parent is marked.
+    fn is_root_kept(self, parents: &[bool]) -> bool
+        requires { MarksPast self.base.now self.check.now 1 parents.now }
+        ensures { result ≡ rule4 document01 self.entry.base.now self.entry.check.now }
+    {
+        if numbers::at::<Plus>(self.check, 1) != 1 {
+            return false;
+        }
+        match numbers::at::<Plus>(self.base, 1) {
+            0 => false,
+            1 => true,
+            _ => parents[1],
+        }
+    }
+
+    // Rules 6 and 7 at every used cell but the root, where every parent is marked and used: an inner cell has a child, and each
+    // comes to the root. The cells are looked at upwards, and how deep each lies is noted, so that a climb ends at the first cell
+    // below the one where it started. The range ends at the size, for one that ends past it costs two instructions more a cell.
+    fn are_ways_kept(self, parents: &[bool], depths: &mut [u8]) -> bool
+        requires { SecondLook self.base.now self.check.now self.size parents.now depths.old }
+        ensures { Says (WaysUpTo document01 self.entry.base.now self.entry.check.now (size_at self.entry.base.now)) result }
+    {
+        for below in 1..self.size {
+            let t = below + 1;
+            if numbers::is_plus_in(self.check, t) {
+                if !self.has_fruit(parents, Cell(t)) {
+                    return false;
+                }
+                let Some(depth) = self.climb(depths, Cell(t)) else {
+                    return false;
+                };
+                depths[t] = depth as u8;
+            }
+        }
+        true
+    }
+
+    // Whether a cell has a mark, if it has a positive base.
+    fn has_fruit(self, parents: &[bool], t: Cell) -> bool
+        requires { (t.0 < length self.base.now) × (t.0 < length parents.now) }
+        ensures { Says (1 ≤ plus_at self.entry.base.now t.0 → marked parents.now t.0 ≡ true) result }
+    {
+        !numbers::is_plus_in(self.base, t.0) || parents[t.0]
+    }
+
+    // How many steps a used cell is away from the root; none where it takes more than the most.
+    fn climb(self, depths: &[u8], t: Cell) -> Option<usize>
+        requires { Starts self.check.now t.0 depths.now }
+        ensures { Climbed document01 self.entry.check.now t.0 result }
+    {
+        let mut at = t.0;
+        for steps in 1..=MOST {
+            at = numbers::known::<Plus>(self.check, at);
+            if at < t.0 {
+                let depth = depths[at] as usize + steps;
+                return (depth <= MOST).then_some(depth);
+            }
+        }
+        None
+    }
 }
 
 // Whether an array holds 0 at a cell.
 fn is_nought(s: &[i32], t: Cell) -> bool
     ensures { Says (Nought s.now t.0) result }
 {
-    if numbers::plus_at(s, t.0) != 0 {
-        return false;
-    }
-    numbers::minus_at(s, t.0) == 0
-}
-
-// Rules 2, 3 and 5, and what rules 6 and 7 say of a cell and its parent alone, at every cell but the root. The cells are
-// looked at downwards, so that the next greater free cell is the one met last. Each parent is marked on the way.
-fn are_cells_kept(base: &[i32], check: &[i32], size: usize, parents: &mut [bool]) -> bool
-    requires sized { Sized base.now size }
-    requires same_length { length base.now ≡ length check.now }
-    requires marks_past { MarksPast base.now check.now size parents.old }
-    ensures { CellsMarked document01 base.now check.now parents.new result }
-{
-    let mut next = size + 1;
-    let mut left = size;
-    while 1 < left {
-        let t = left;
-        left -= 1;
-        if numbers::is_plus_in(check, t) {
-            let parent = numbers::known_plus(check, t);
-            if !is_used_kept(base, size, Cell(t), Cell(parent)) {
-                return false;
-            }
-            parents[parent] = true;
-        } else {
-            if !is_free_kept(base, check, Cell(t), Cell(next)) {
-                return false;
-            }
-            next = t;
-        }
-    }
-    numbers::minus_at(check, 0) == next
-}
-
-// Rules 2 and 3 at a cell that is not used, with the next greater free cell.
-fn is_free_kept(base: &[i32], check: &[i32], t: Cell, next: Cell) -> bool
-    ensures { Says (FreeKept base.now check.now t.0 next.0) result }
-{
-    if numbers::minus_at(check, t.0) != next.0 {
-        return false;
-    }
-    is_nought(base, t)
-}
-
-// Rule 5, rule 6 but for the child, and rule 7's two steps at least of a leaf, at a used cell other than the root, with its
-// parent. A parent up to the size that has a positive base is used, for a free cell's base is 0; that it is another cell
-// follows from the climb.
-fn is_used_kept(base: &[i32], size: usize, t: Cell, parent: Cell) -> bool
-    requires sized { Sized base.now size }
-    requires inside { t.0 ≤ size }
-    ensures { Says (UsedKept document01 base.now t.0 parent.0) result }
-{
-    if size < parent.0 {
-        return false;
-    }
-    if !numbers::is_plus_in(base, parent.0) {
-        return false;
-    }
-    let q = numbers::known_plus(base, parent.0);
-    if t.0 <= q {
-        return false;
-    }
-    let code = t.0 - q;
-    if Alphabet::GREATEST < code {
-        return false;
-    }
-    if code == Alphabet::END {
-        if parent.0 == 1 {
-            return false;
-        }
-        return rules::is_row(numbers::minus_in(base, t.0));
-    }
-    numbers::is_plus_in(base, t.0)
-}
-
-// Rule 4, where every parent is marked.
-fn is_root_kept(base: &[i32], check: &[i32], parents: &[bool]) -> bool
-    requires some_size { 1 ≤ size_at base.now }
-    requires marks_past { MarksPast base.now check.now 1 parents.now }
-    ensures { result ≡ rule4 document01 base.now check.now }
-{
-    if numbers::plus_at(check, 1) != 1 {
-        return false;
-    }
-    let q = numbers::plus_at(base, 1);
-    if q == 0 {
-        return false;
-    }
-    if q == 1 {
-        return true;
-    }
-    parents[1]
-}
-
-// Rules 6 and 7 at every used cell but the root, where every parent is marked and used: an inner cell has a child, and each
-// comes to the root. The cells are looked at upwards, and how deep each lies is noted, so that a climb ends at the first cell
-// below the one where it started.
-fn are_ways_kept(
-    base: &[i32],
-    check: &[i32],
-    size: usize,
-    parents: &[bool],
-    depths: &mut [u8],
-) -> bool
-    requires { SecondLook base.now check.now size parents.now depths.old }
-    ensures { Says (WaysUpTo document01 base.now check.now (size_at base.now)) result }
-{
-    let mut t = 1;
-    while t < size {
-        t += 1;
-        if numbers::is_plus_in(check, t) {
-            if !has_fruit(base, parents, Cell(t)) {
-                return false;
-            }
-            let depth = climb(check, depths, Cell(t));
-            if depth == 0 {
-                return false;
-            }
-            depths[t] = depth as u8;
-        }
-    }
-    true
-}
-
-// Whether a cell has a mark, if it has a positive base.
-fn has_fruit(base: &[i32], parents: &[bool], t: Cell) -> bool
-    requires { (t.0 < length base.now) × (t.0 < length parents.now) }
-    ensures { Says (1 ≤ plus_at base.now t.0 → marked parents.now t.0 ≡ true) result }
-{
-    let at = t.0;
-    if !numbers::is_plus_in(base, at) {
-        return true;
-    }
-    parents[at]
-}
-
-// How many steps a used cell is away from the root, or 0 where it takes more than an identifier's characters and end mark.
-fn climb(check: &[i32], depths: &[u8], t: Cell) -> usize
-    requires { Starts check.now t.0 depths.now }
-    ensures { Climbed document01 check.now t.0 result }
-{
-    let from = t.0;
-    let mut at = numbers::known_plus(check, from);
-    let mut steps = 1;
-    while from <= at {
-        if steps == rules::LIMIT + 1 {
-            return 0;
-        }
-        at = numbers::known_plus(check, at);
-        steps += 1;
-    }
-    let depth = depths[at] as usize + steps;
-    if rules::LIMIT + 1 < depth {
-        return 0;
-    }
-    depth
+    numbers::at::<Plus>(s, t.0) == 0 && numbers::at::<Minus>(s, t.0) == 0
 }

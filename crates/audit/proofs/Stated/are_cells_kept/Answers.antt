@@ -1,12 +1,12 @@
 -- `are_cells_kept` looks at the cells downwards: it asks each, keeps the free cell met last, and marks the parents. Assumes
 -- nothing.
-use mathlib.Core.Path.{◌≡◌, refl, sym, subst, ◌∙◌}
+use mathlib.Core.Path.{◌≡◌, sym, subst, ◌∙◌}
 use mathlib.Core.Bool.{Bool, true, false, false≢true}
 use mathlib.Core.List.{List}
 use Prim.Native.Nat.{ℕ, zero, suc, ◌+◌, ◌-◌, ◌≤◌}
 use native.Mathlib.Numerals.{add-one, unary_clauses}
 use native.Mathlib.Omega.{arith}
-use lib.ListN.{get_or, set, length-set}
+use lib.ListN.{get_or, set}
 use lib.IntN.{ℤ}
 use Rattle.numbers.specs.Stored.{positive, plus_at, minus_at}
 use Rattle.numbers.proofs.Laws.{one_side}
@@ -18,8 +18,8 @@ use Rattle.audit.proofs.Says.{says_no, tested_some, tested_none}
 use Rattle.audit.proofs.Downwards.{past_less}
 use Rattle.audit.proofs.NextFree.{next_free_past, next_free_last, next_free_here, next_free_on}
 use Rattle.audit.proofs.Marks.{mark_none, mark_parent}
-use Rattle.audit.proofs.are_cells_kept.Invariants.{Looked}
-use Rattle.audit.proofs.are_cells_kept.Goals as goal
+use Rattle.audit.proofs.Stated.are_cells_kept.Invariants.{Looked}
+use Rattle.audit.proofs.Stated.are_cells_kept.Goals as goal
 
 -- The next free cell after the one below t, where t is free, and where it is used.
 module _ (base check : List ℤ) where
@@ -36,14 +36,14 @@ module _ {base check : List ℤ} {marks : List Bool} where
   not_all : (CellsKept document01 base check → ⊥) → CellsMarked document01 base check marks false
   not_all n = record { kept = says_no n; parents = λ e. absurd (false≢true e) }
 
-  start : {size : ℕ} → Sized base size → MarksPast base check size marks → Looked base check marks (size + 1) size
-  start s m = record {
+  start : {size left : ℕ} → left ≡ size → Sized base size → MarksPast base check size marks → Looked base check marks (size + 1) left
+  start e s m = rw e (record {
     low = s.some;
     high = omega arith;
     kept = λ u h l. absurd (omega arith);
     parents = m;
     link = rw s.is (add-one (size_at base) ∙ sym (next_free_last base check));
-  }
+  })
 
   -- One cell more.
   module _ {next left : ℕ} (w : Looked base check marks next left) (far : 2 ≤ left) where
@@ -81,29 +81,27 @@ module _ {base check : List ℤ} {marks : List Bool} where
       used_not : (UsedKept document01 base left p → ⊥) → CellsKept document01 base check → ⊥
       used_not n k = n (rw is ((k.cells left far w.high).used (omega arith)))
 
-pub loop-left-init : goal.loop-left-init
-loop-left-init c = (start c.requires.sized c.requires.marks_past, refl)
+pub loop-t-init : goal.loop-t-init
+loop-t-init c = start (omega arith) c.args.self.sized c.requires
 
 pub returns-then-not-is_used_kept : goal.returns-then-not-is_used_kept
 returns-then-not-is_used_kept c =
     let some = tested_some _ c.is_plus_in.ensures c.if-is_plus_in.true in
-    not_all (used_not c.loop-left.invariant.0 c.loop-left-test.true c.known_plus-parent.ensures.is (omega arith)
+    not_all (used_not c.loop-t.invariant (omega arith) c.known-parent.ensures.is (omega arith)
     (c.is_used_kept.ensures.no c.if-not-is_used_kept.true))
 
-pub loop-left-preserved-then-is_plus_in : goal.loop-left-preserved-then-is_plus_in
-loop-left-preserved-then-is_plus_in c =
-    let w = c.loop-left.invariant in
+pub loop-t-preserved-then-is_plus_in : goal.loop-t-preserved-then-is_plus_in
+loop-t-preserved-then-is_plus_in c =
     let some = tested_some _ c.is_plus_in.ensures c.if-is_plus_in.true in
     let u = c.is_used_kept.ensures.yes c.if-not-is_used_kept.false in
-    (used_step w.0 c.loop-left-test.true c.known_plus-parent.ensures.is (omega arith) u, simp length-set w.1)
+    used_step c.loop-t.invariant (omega arith) c.known-parent.ensures.is (omega arith) u
 
 pub returns-then-not-is_free_kept : goal.returns-then-not-is_free_kept
 returns-then-not-is_free_kept c =
     let z = tested_none _ c.is_plus_in.ensures c.if-is_plus_in.false in
-    not_all (free_not c.loop-left.invariant.0 c.loop-left-test.true z (c.is_free_kept.ensures.no c.if-not-is_free_kept.true))
+    not_all (free_not c.loop-t.invariant (omega arith) z (c.is_free_kept.ensures.no c.if-not-is_free_kept.true))
 
-pub loop-left-preserved : goal.loop-left-preserved
-loop-left-preserved c =
-    let w = c.loop-left.invariant in
+pub loop-t-preserved : goal.loop-t-preserved
+loop-t-preserved c =
     let z = tested_none _ c.is_plus_in.ensures c.if-is_plus_in.false in
-    (free_step w.0 c.loop-left-test.true z (c.is_free_kept.ensures.yes c.if-not-is_free_kept.false), w.1)
+    free_step c.loop-t.invariant (omega arith) z (c.is_free_kept.ensures.yes c.if-not-is_free_kept.false)

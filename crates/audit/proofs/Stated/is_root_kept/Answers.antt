@@ -14,7 +14,7 @@ use Rattle.rules.specs.WhatTheIndexDoes.{document01}
 use Rattle.rules.specs.ASoundTable.{holds, has_child, rule4}
 use Rattle.audit.proofs.Says.{as_said}
 use Rattle.audit.proofs.Marks.{marks_say}
-use Rattle.audit.proofs.is_root_kept.Goals as goal
+use Rattle.audit.proofs.Stated.is_root_kept.Goals as goal
 
 module _ (base check : List ℤ) where
   other_mark : plus_at check 1 ≢ 1 → false ≡ rule4 document01 base check
@@ -38,16 +38,16 @@ module _ (base check : List ℤ) where
     unfolding rule4
     grown h = rw (mark_holds, le-leb 1 (plus_at base 1) (omega arith), ne_eqb (plus_at base 1) 1 (λ e. omega arith), or-false)
 
-pub returns-then-plus_at-ne1 : goal.returns-then-plus_at-ne1
-returns-then-plus_at-ne1 c = other_mark _ _ (λ e. omega (arith, c.if-plus_at-ne1.true))
+pub returns-then-at-ne1 : goal.returns-then-at-ne1
+returns-then-at-ne1 c = other_mark _ _ (λ e. omega (arith, c.if-at-ne1.true))
 
-pub returns-then-q-eq0 : goal.returns-then-q-eq0
-returns-then-q-eq0 c = baseless _ c.args.check.now (omega arith)
+pub returns-in-0 : goal.returns-in-0
+returns-in-0 c = baseless _ c.args.self.check.now (omega arith)
 
-pub returns-then-q-eq1 : goal.returns-then-q-eq1
-returns-then-q-eq1 c = lone _ _ (omega arith) (omega arith)
+pub returns-in-1 : goal.returns-in-1
+returns-in-1 c = lone _ _ (omega arith) (omega arith)
 
-pub returns : goal.returns
-returns c =
-    let m = c.requires.marks_past in
+pub returns-in_default : goal.returns-in_default
+returns-in_default c =
+    let m = c.requires in
     as_said _ (marks_say m 1 (omega arith)) ∙ grown _ _ (omega arith) (omega arith)
