@@ -1,10 +1,10 @@
 -- A cell that is looked at: whether it has a child; and what is asked and left where it has one, where it is the root, and where it
 -- becomes free and its parent is looked at. Assumes nothing.
 use mathlib.Core.Path.{◌≡◌, sym, ap, ◌∙◌}
-use mathlib.Core.Logic.{⊎_elim}
-use mathlib.Core.Bool.{true, false}
+use mathlib.Core.Logic.{◌≢◌, ⊎_elim}
+use mathlib.Core.Bool.{Bool, true, false}
 use mathlib.Core.List.{List, [], ◌∷◌}
-use Prim.Native.Nat.{ℕ, ◌+◌, ◌-◌, ◌≤◌}
+use Prim.Native.Nat.{ℕ, ◌+◌, ◌-◌}
 use native.Mathlib.Omega.{arith}
 use lib.ListN.{length, drop}
 use lib.IntN.{ℤ}
@@ -22,7 +22,7 @@ use Rattle.tree.proofs.Steps.{last_step}
 use Rattle.tree.proofs.Trees.{based_pos, based_inside, step_used, step_far}
 use Rattle.tree.proofs.ChildCodes.{childless_codes}
 use Rattle.tree.proofs.Pruning.{prune_stays, prune_root, prune_onward, parent_stays, parent_based, less_tree, root_fit}
-use Rattle.cells.specs.Edits.{Shown, celled, holding, Releases}
+use Rattle.cells.specs.Edits.{Shown, EveryTable, celled, holding, Releases}
 use Rattle.cells.proofs.Shown.{shown_parent}
 use Rattle.moving.specs.Children.{Relocates, Collects, Collected}
 use Rattle.pruning.specs.Parents.{Looks, Prunes}
@@ -52,6 +52,11 @@ module _ {base check : List ℤ} {u depth : ℕ} {path : List ℕ} {t : Table} (
     based = p.based;
   }
 
+  -- What the test said of it.
+  pub prune_looked : {r b : Bool} → EveryTable (Looks base check u) (λ t. r ≡ childless t.cells u GREATEST) → r ≡ b →
+      childless t.cells u GREATEST ≡ b
+  prune_looked f e = sym (f t prune_looks) ∙ e
+
   -- ---- it has one
 
   pub prune_stayed : childless t.cells u GREATEST ≡ false → Shown base check (celled t (prune document01 t.cells path))
@@ -77,9 +82,10 @@ module _ {base check : List ℤ} {u depth : ℕ} {path : List ℕ} {t : Table} (
       inside = λ c m. absurd m;
     }
 
-    pub prune_relocated : {base' check' : List ℤ} → Shown base' check' (celled t (relocate t.cells 1 1)) →
+    pub prune_relocated : {base' check' : List ℤ} →
+        EveryTable (Relocates base check 1 1 []) (λ t. Shown base' check' (celled t (relocate t.cells 1 1))) →
         Shown base' check' (celled t (prune document01 t.cells path))
-    prune_relocated s = rw (path_empty, prune_root document01 t.cells root_none) s
+    prune_relocated f = rw (path_empty, prune_root document01 t.cells root_none) (f t prune_relocates)
 
 -- ---- it becomes free, and its parent is looked at
 
@@ -87,20 +93,20 @@ module _ {base check : List ℤ} {u depth : ℕ} {t : Table} where
   last_label : {c : ℕ} {path : List ℕ} → Prunes base check u depth (c ∷ path) t → Step t.cells (node t.cells path) c u
   last_label {c} {path} p = last_step t.cells c path p.node_is (based_pos p.tree u p.based)
 
-  module _ (more : 1 ≤ depth) where
+  module _ (more : depth ≢ 0) where
     pub prune_releases : (path : List ℕ) → Prunes base check u depth path t → Releases base check u t
     prune_releases [] p = absurd (omega (arith, p.depth_is))
     prune_releases (c ∷ path) p = record { shown = p.shown; far = step_far p.tree (last_label p); parent = step_used p.tree (last_label p) }
 
     module _ (none : childless t.cells u GREATEST ≡ true) where
-      pub prune_parent : {s : ℕ} → s ≡ plus_at check u → {base' check' : List ℤ} → Shown base' check' (holding t u free) →
-          (path : List ℕ) → Prunes base check u depth path t → Prunes base' check' s (depth - 1) (drop 1 path) (holding t u free)
-      prune_parent is shown [] p = absurd (omega (arith, p.depth_is))
-      prune_parent is shown (c ∷ path) p =
+      pub prune_parent : {s : ℕ} → s ≡ plus_at check u → {base' check' : List ℤ} →
+          EveryTable (Releases base check u) (λ t. Shown base' check' (holding t u free)) → (path : List ℕ) → Prunes base check u depth path t → Prunes base' check' s (depth - 1) (drop 1 path) (holding t u free)
+      prune_parent is f [] p = absurd (omega (arith, p.depth_is))
+      prune_parent is f (c ∷ path) p =
           let k = last_label p in
           let parent = is ∙ shown_parent p.shown u (λ e. omega (arith, step_far p.tree k)) ∙ k.back in
           record {
-            shown = shown;
+            shown = f t (prune_releases (c ∷ path) p);
             tree = less_tree p.tree path k none;
             node_is = parent_stays p.tree path k none ∙ sym parent;
             depth_is = omega (arith, p.depth_is);

@@ -34,5 +34,6 @@ fn is_childless(base: &[i32], check: &[i32], s: Cell) -> bool
     ensures { EveryTable (Looks base.now check.now s.0) (λ t. result ≡ childless t.cells s.0 GREATEST) }
 {
     let mut codes = [0; Alphabet::GREATEST + 1];
+    // Behind the end mark stand the codes of its children.
     moving::collect(base, check, s, Alphabet::END, &mut codes) == 1
 }

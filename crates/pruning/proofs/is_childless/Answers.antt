@@ -3,8 +3,5 @@ use mathlib.Core.Path.{refl}
 use Rattle.pruning.proofs.FreedCells.{looks_collects, collected_childless}
 use Rattle.pruning.proofs.is_childless.Goals as goal
 
-pub collect-requires : goal.collect-requires
-collect-requires c = let (t, l) = c.requires in (t, looks_collects l refl)
-
 pub returns : goal.returns
 returns c = λ t l. collected_childless (c.collect.ensures t (looks_collects l refl))
