@@ -1,27 +1,42 @@
 -- What a course leaves: its table where each placement fits, otherwise the table it began with. Assumes nothing.
-use mathlib.Core.Path.{◌≡◌, sym, ◌∙◌}
+use mathlib.Core.Path.{◌≡◌, refl, sym, ap, ◌∙◌}
 use mathlib.Core.Bool.{Bool, true, false}
 use mathlib.Core.List.{List}
 use lib.IntN.{ℤ}
+use Rattle.std.specs.Prelude.{Result, Ok, Err}
+use Rattle.std.specs.Result.{is_err}
+use Rattle.rules.specs.declared.Refusal.{Refusal}
+use Rattle.rules.specs.declared.Refusal.TheVariants.{NoRoom}
 use Rattle.rules.specs.Table.{Table}
 use Rattle.rules.specs.Insertion.{Course}
 use Rattle.cells.specs.Edits.{Shown}
-use Rattle.growing.specs.Branches.{Grown}
+use Rattle.growing.specs.Branches.{Grown, room}
+
+room_fits : (b : Bool) → is_err (room b) ≡ false → b ≡ true
+room_fits true e = refl
+room_fits false e = sym e
+
+room_lacks : (b : Bool) → is_err (room b) ≡ true → b ≡ false
+room_lacks true e = sym e
+room_lacks false e = refl
 
 module _ {course : Course} {t : Table} {base check : List ℤ} where
   -- ---- what a growth said
 
-  module _ {r : Bool} (g : Grown course t r base check) where
-    pub fits_left : r ≡ true → (course.fitted ≡ true) × Shown base check course.table
-    fits_left e = let f = sym g.fitted ∙ e in (f, rw f at g.left)
+  module _ {r : Result (Unit {0}) Refusal} (g : Grown course t r base check) where
+    pub fits_left : is_err r ≡ false → (course.fitted ≡ true) × Shown base check course.table
+    fits_left e = let f = room_fits course.fitted (ap is_err (sym g.fitted) ∙ e) in (f, rw f at g.left)
 
-    pub unfit_left : r ≡ false → (course.fitted ≡ false) × Shown base check t
-    unfit_left e = let f = sym g.fitted ∙ e in (f, rw f at g.left)
+    pub unfit_left : is_err r ≡ true → (course.fitted ≡ false) × Shown base check t
+    unfit_left e = let f = room_lacks course.fitted (ap is_err (sym g.fitted) ∙ e) in (f, rw f at g.left)
+
+    pub unfit_says : is_err r ≡ true → r ≡ Err NoRoom
+    unfit_says e = g.fitted ∙ ap room (unfit_left e).0
 
   -- ---- what is said of a course
 
-  pub left_fits : course.fitted ≡ true → Shown base check course.table → Grown course t true base check
-  left_fits f s = record { fitted = sym f; left = rw f s }
+  pub left_fits : course.fitted ≡ true → Shown base check course.table → Grown course t (Ok tt) base check
+  left_fits f s = record { fitted = rw f; left = rw f s }
 
-  pub left_unfit : course.fitted ≡ false → Shown base check t → Grown course t false base check
-  left_unfit f s = record { fitted = sym f; left = rw f s }
+  pub left_unfit : course.fitted ≡ false → Shown base check t → Grown course t (Err NoRoom) base check
+  left_unfit f s = record { fitted = rw f; left = rw f s }
