@@ -6,6 +6,7 @@ ghost use Rattle.rules.specs.DeletionAndCompaction.{compaction_step, compacted};
 ghost use Rattle.cells.specs.Edits.{SomeTable, EveryTable};
 ghost use Rattle.compaction.specs.Lowering.{Steps, LowersChildren, lowering, Moved, move_count};
 
+use numbers::Plus;
 use rules::{Alphabet, Cell};
 
 // Trims the size as a step does, then repeats steps until n moves are made or a step moves nothing. Gives the moves made.
@@ -41,7 +42,7 @@ fn lower(base: &mut [i32], check: &mut [i32]) -> bool
     if top.0 == 1 {
         return false;
     }
-    let s = numbers::plus_at(check, top.0);
+    let s = numbers::at::<Plus>(check, top.0);
     let mut codes = [0; Alphabet::GREATEST + 1];
     let n = moving::collect(base, check, Cell(s), Alphabet::END, &mut codes);
     lower_children(base, check, Cell(s), &codes[1..n])
@@ -53,7 +54,7 @@ fn lower_children(base: &mut [i32], check: &mut [i32], s: Cell, codes: &[usize])
     ensures { EveryTable (LowersChildren base.old check.old s.0 codes.now) (λ t. Moved (lowering t) (move_count result) base.new check.new) }
 {
     let q = placing::place(base, check, codes);
-    if numbers::plus_at(base, s.0) <= q {
+    if numbers::at::<Plus>(base, s.0) <= q {
         return false;
     }
     moving::relocate(base, check, s, q, codes);

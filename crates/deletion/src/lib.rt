@@ -12,6 +12,7 @@ ghost use Rattle.rules.specs.Promised.{Edits};
 ghost use Rattle.cells.specs.Edits.{Shown, SomeTable, EveryTable};
 ghost use Rattle.deletion.specs.Deleting.{Deletes, Removes};
 
+use numbers::Plus;
 use rules::{Alphabet, Answer, Cell};
 
 // Deletes an identifier: ABSENT, or done with the row removed.
@@ -34,7 +35,7 @@ fn remove(base: &mut [i32], check: &mut [i32], s: Cell, key: &[u8])
     requires { SomeTable (Removes base.old check.old s.0 key.now) }
     ensures { EveryTable (Removes base.old check.old s.0 key.now) (λ t. Shown base.new check.new (deleted document01 t key.now)) }
 {
-    let leaf = numbers::plus_at(base, s.0) + Alphabet::END;
+    let leaf = numbers::at::<Plus>(base, s.0) + Alphabet::END;
     cells::release(base, check, Cell(leaf));
     pruning::prune(base, check, s, key.len());
     compaction::step(base, check);

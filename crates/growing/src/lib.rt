@@ -7,6 +7,7 @@ ghost use Rattle.rules.specs.WhatTheIndexDoes.{last_cell};
 ghost use Rattle.cells.specs.Edits.{Shown, SomeTable, EveryTable};
 ghost use Rattle.growing.specs.Branches.{Label, growth, placed_first, Leads, Grows, Retracts, Begun, retracted, Grown};
 
+use numbers::Plus;
 use rules::{Alphabet, Cell, Refusal, Row};
 
 // From the node s, whose base leads to an unused cell for the first label of the rest: that cell is then used, and each further
@@ -21,7 +22,7 @@ pub fn grow(
     requires { SomeTable (Grows base.old check.old s.0 rest.now row.0) }
     ensures { EveryTable (Grows base.old check.old s.0 rest.now row.0) (λ t. Grown (growth (last_cell base.old) t s.0 rest.now row.0) t result base.new check.new) }
 {
-    let size = numbers::plus_at(base, 0);
+    let size = numbers::at::<Plus>(base, 0);
     let u = claim_first(base, check, s, rest);
     let Some((_, further)) = rest.split_first() else {
         cells::put_row(base, u, row);
@@ -31,7 +32,7 @@ pub fn grow(
         retract(base, check, u, size);
         return Err(Refusal::NoRoom);
     };
-    numbers::put_plus(base, u.0, q);
+    numbers::put::<Plus>(base, u.0, q);
     let grown = grow(base, check, u, further, row);
     if grown.is_err() {
         retract(base, check, u, size);
@@ -44,7 +45,7 @@ fn claim_first(base: &mut [i32], check: &mut [i32], s: Cell, rest: &[u8]) -> Cel
     requires { SomeTable (Leads base.old check.old s.0 rest.now) }
     ensures { EveryTable (Leads base.old check.old s.0 rest.now) (λ t. Begun s.0 rest.now t result.0 base.new check.new) }
 {
-    let u = Cell(numbers::plus_at(base, s.0) + label(rest));
+    let u = Cell(numbers::at::<Plus>(base, s.0) + label(rest));
     cells::claim(base, check, u, s);
     u
 }

@@ -11,6 +11,7 @@ ghost use Rattle.rules.specs.Promised.{Edits};
 ghost use Rattle.growing.specs.Branches.{growth, Grown};
 ghost use Rattle.insertion.specs.Inserting.{Inserts, Extends, PlacesAnew, MovesAndGrows, collision, extension, relocated, Extended};
 
+use numbers::Plus;
 use rules::{Alphabet, Answer, Cell, Row};
 
 // Inserts an identifier: PRESENT, NO ROOM, or done with the number of children that changed cell.
@@ -33,11 +34,11 @@ fn extend(base: &mut [i32], check: &mut [i32], s: Cell, rest: &[u8], row: Row) -
     requires { SomeTable (Extends base.old check.old s.0 rest.now row.0) }
     ensures { EveryTable (Extends base.old check.old s.0 rest.now row.0) (λ t. Extended (extension (last_cell base.old) t s.0 rest.now row.0) t result base.new check.new) }
 {
-    let u = numbers::plus_at(base, s.0) + growing::label(rest);
+    let u = numbers::at::<Plus>(base, s.0) + growing::label(rest);
     if base.len() <= u {
         return collide(base, check, s, rest, row);
     }
-    if 0 < numbers::plus_at(check, u) {
+    if 0 < numbers::at::<Plus>(check, u) {
         return collide(base, check, s, rest, row);
     }
     if growing::grow(base, check, s, rest, row) {
@@ -96,8 +97,8 @@ fn move_and_grow(
     requires { SomeTable (MovesAndGrows base.old check.old s.0 rest.now row.0 q far codes.now) }
     ensures { EveryTable (MovesAndGrows base.old check.old s.0 rest.now row.0 q far codes.now) (λ t. Grown (growth (last_cell base.old) (relocated t s.0 q far) s.0 rest.now row.0) t result base.new check.new) }
 {
-    let size = numbers::plus_at(base, 0);
-    let b = numbers::plus_at(base, s.0);
+    let size = numbers::at::<Plus>(base, 0);
+    let b = numbers::at::<Plus>(base, s.0);
     cells::widen(base, check, far);
     moving::relocate(base, check, s, q, codes);
     if growing::grow(base, check, s, rest, row) {

@@ -8,6 +8,7 @@ ghost use Rattle.rules.specs.DeletionAndCompaction.{prune};
 ghost use Rattle.cells.specs.Edits.{Shown, SomeTable, EveryTable, celled};
 ghost use Rattle.pruning.specs.Parents.{Looks, SomePath, EveryPath, Prunes};
 
+use numbers::Plus;
 use rules::{Alphabet, Cell};
 
 // The cell u lies so many labels below the root. If it is left without a child it becomes free, and its parent is looked at in its
@@ -23,7 +24,7 @@ pub fn prune(base: &mut [i32], check: &mut [i32], u: Cell, depth: usize)
         moving::relocate(base, check, Cell(1), 1, &[]);
         return;
     }
-    let s = numbers::plus_at(check, u.0);
+    let s = numbers::at::<Plus>(check, u.0);
     cells::release(base, check, u);
     prune(base, check, Cell(s), depth - 1);
 }

@@ -19,16 +19,16 @@ placed_here a found = finds_placed a.steps.shown (lower_codes a) found
 pub place-q-requires : goal.place-q-requires
 place-q-requires c = let (t, a) = c.requires in searches a.steps.shown (lower_codes a)
 
-pub returns-then-plus_at-q : goal.returns-then-plus_at-q
-returns-then-plus_at-q c = λ t a. children_stay a (placed_here a c.place-q.ensures) c.plus_at.ensures.is c.if-plus_at-q.true
+pub returns-then-at-q : goal.returns-then-at-q
+returns-then-at-q c = λ t a. children_stay a (placed_here a c.place-q.ensures) c.at.ensures.is c.if-at-q.true
 
 pub relocate-requires : goal.relocate-requires
 relocate-requires c =
     let (t, a) = c.requires in
-    (t, relocates a (placed_here a c.place-q.ensures) c.plus_at.ensures.is c.if-plus_at-q.false)
+    (t, relocates a (placed_here a c.place-q.ensures) c.at.ensures.is c.if-at-q.false)
 
 pub returns : goal.returns
 returns c = λ t a.
     let here = placed_here a c.place-q.ensures in
-    children_move a here c.plus_at.ensures.is c.if-plus_at-q.false
-    (c.relocate.ensures t (relocates a here c.plus_at.ensures.is c.if-plus_at-q.false))
+    children_move a here c.at.ensures.is c.if-at-q.false
+    (c.relocate.ensures t (relocates a here c.at.ensures.is c.if-at-q.false))

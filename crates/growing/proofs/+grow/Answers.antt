@@ -16,18 +16,18 @@ returns-in_default n c = λ t a. grow_ended a (c.claim_first-u.ensures t a.leads
 pub retract-requires : goal.retract-requires
 retract-requires n c =
     let (t, a) = c.requires in
-    (_, grow_retracts a (c.claim_first-u.ensures t a.leads) c.plus_at-size.ensures.is)
+    (_, grow_retracts a (c.claim_first-u.ensures t a.leads) c.at-size.ensures.is)
 
 pub returns-in_default-place_first : goal.returns-in_default-place_first
 returns-in_default-place_first n c = λ t a.
     let k = c.claim_first-u.ensures t a.leads in
     grow_past a k c.in-Some.ensures.cases.0 c.claim_first-u.auto.base (c.in_default-place_first.ensures _ k.shown)
-    c.plus_at-size.ensures.is c.retract.ensures
+    c.at-size.ensures.is c.retract.ensures
 
 -- ---- one is placed
 
-pub put_plus-requires : goal.put_plus-requires
-put_plus-requires n c =
+pub put-requires : goal.put-requires
+put-requires n c =
     let (t, a) = c.requires in
     let k = c.claim_first-u.ensures t a.leads in
     let found = c.in-Some-place_first.ensures _ k.shown in
@@ -39,7 +39,7 @@ grow-grown-requires n c =
     let k = c.claim_first-u.ensures t a.leads in
     let found = c.in-Some-place_first.ensures _ k.shown in
     let (split, shorter) = c.in-Some.ensures.cases in
-    (omega (arith, shorter, c.decreases), (_, grow_onward a k split c.claim_first-u.auto.base found c.put_plus.ensures))
+    (omega (arith, shorter, c.decreases), (_, grow_onward a k split c.claim_first-u.auto.base found c.put.ensures))
 
 -- ---- after the rest
 
@@ -49,20 +49,20 @@ retract-requires-then-is_err n c =
     let k = c.claim_first-u.ensures t a.leads in
     let found = c.in-Some-place_first.ensures _ k.shown in (
       _,
-      grow_gives_up a k c.in-Some.ensures.cases.0 c.claim_first-u.auto.base found c.put_plus.ensures c.grow-grown.ensures
-          (sym c.is_err.ensures.value ∙ c.if-is_err.true) c.plus_at-size.ensures.is,
+      grow_gives_up a k c.in-Some.ensures.cases.0 c.claim_first-u.auto.base found c.put.ensures c.grow-grown.ensures
+          (sym c.is_err.ensures.value ∙ c.if-is_err.true) c.at-size.ensures.is,
     )
 
 pub returns-then-is_err : goal.returns-then-is_err
 returns-then-is_err n c = λ t a.
     let k = c.claim_first-u.ensures t a.leads in
     let found = c.in-Some-place_first.ensures _ k.shown in
-    grow_unfitted a k c.in-Some.ensures.cases.0 c.claim_first-u.auto.base found c.put_plus.ensures c.grow-grown.ensures
-    (sym c.is_err.ensures.value ∙ c.if-is_err.true) c.plus_at-size.ensures.is c.retract-then-is_err.ensures
+    grow_unfitted a k c.in-Some.ensures.cases.0 c.claim_first-u.auto.base found c.put.ensures c.grow-grown.ensures
+    (sym c.is_err.ensures.value ∙ c.if-is_err.true) c.at-size.ensures.is c.retract-then-is_err.ensures
 
 pub returns-else-is_err : goal.returns-else-is_err
 returns-else-is_err n c = λ t a.
     let k = c.claim_first-u.ensures t a.leads in
     let found = c.in-Some-place_first.ensures _ k.shown in
-    grow_fitted a k c.in-Some.ensures.cases.0 c.claim_first-u.auto.base found c.put_plus.ensures c.grow-grown.ensures
+    grow_fitted a k c.in-Some.ensures.cases.0 c.claim_first-u.auto.base found c.put.ensures c.grow-grown.ensures
     (sym c.is_err.ensures.value ∙ c.if-is_err.false)

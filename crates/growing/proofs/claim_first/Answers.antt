@@ -17,9 +17,9 @@ led : {base check : List ℤ} {s : ℕ} {rest : List ℕ} {t : Table} → Leads 
 led g b l = ap₂ (λ x y. x + y) (b ∙ shown_base g.shown _ g.some) l
 
 pub claim-requires : goal.claim-requires
-claim-requires c = let (t, g) = c.requires in (t, grow_claims g (led g c.plus_at.ensures.is c.label.ensures.is))
+claim-requires c = let (t, g) = c.requires in (t, grow_claims g (led g c.at.ensures.is c.label.ensures.is))
 
 pub returns : goal.returns
 returns c = λ t g.
-    let is = led g c.plus_at.ensures.is c.label.ensures.is in
+    let is = led g c.at.ensures.is c.label.ensures.is in
     record { cell_is = is; shown = c.claim.ensures t (grow_claims g is) }

@@ -30,21 +30,21 @@ relocate-requires-2 c =
     let (t, m) = c.requires in
     let moved = c.relocate.ensures _ (there m (c.widen.ensures _ (widens m))) in
     let grown = of_course m c.relocate.new.base (omega arith) (c.grow.ensures _ (grows m (omega arith) moved)) in
-    (_, back m c.plus_at-b.ensures.is (moved_still m grown c.if-grow.false))
+    (_, back m c.at-b.ensures.is (moved_still m grown c.if-grow.false))
 
 pub shrink-requires : goal.shrink-requires
 shrink-requires c =
     let (t, m) = c.requires in
     let moved = c.relocate.ensures _ (there m (c.widen.ensures _ (widens m))) in
     let grown = of_course m c.relocate.new.base (omega arith) (c.grow.ensures _ (grows m (omega arith) moved)) in
-    let b = c.plus_at-b.ensures.is in
-    (_, shrinks m b c.plus_at-size.ensures.is (c.relocate-2.ensures _ (back m b (moved_still m grown c.if-grow.false))))
+    let b = c.at-b.ensures.is in
+    (_, shrinks m b c.at-size.ensures.is (c.relocate-2.ensures _ (back m b (moved_still m grown c.if-grow.false))))
 
 pub returns : goal.returns
 returns c = λ t m.
     let moved = c.relocate.ensures _ (there m (c.widen.ensures _ (widens m))) in
     let grown = of_course m c.relocate.new.base (omega arith) (c.grow.ensures _ (grows m (omega arith) moved)) in
-    let b = c.plus_at-b.ensures.is in
-    let n = c.plus_at-size.ensures.is in
+    let b = c.at-b.ensures.is in
+    let n = c.at-size.ensures.is in
     let again = shrinks m b n (c.relocate-2.ensures _ (back m b (moved_still m grown c.if-grow.false))) in
     all_back m grown c.if-grow.false n (c.shrink.ensures _ again)

@@ -33,9 +33,9 @@ pub prune-requires : goal.prune-requires
 prune-requires n c =
     let (path, (t, p)) = c.requires in
     let none = prune_looked p c.is_childless.ensures c.if-not-is_childless.false in
-    (omega (arith, c.decreases), (_, (_, prune_parent c.if-depth-eq0.false none c.plus_at-s.ensures.is c.release.ensures path p)))
+    (omega (arith, c.decreases), (_, (_, prune_parent c.if-depth-eq0.false none c.at-s.ensures.is c.release.ensures path p)))
 
 pub returns : goal.returns
 returns n c = λ path t p.
     let none = prune_looked p c.is_childless.ensures c.if-not-is_childless.false in
-    prune_left c.if-depth-eq0.false none path p (c.prune.ensures _ _ (prune_parent c.if-depth-eq0.false none c.plus_at-s.ensures.is c.release.ensures path p))
+    prune_left c.if-depth-eq0.false none path p (c.prune.ensures _ _ (prune_parent c.if-depth-eq0.false none c.at-s.ensures.is c.release.ensures path p))
