@@ -13,20 +13,19 @@ ghost use Rattle.cells.specs.Edits.{Shown, SomeTable, EveryTable};
 ghost use Rattle.deletion.specs.Deleting.{Deletes, Removes};
 
 use numbers::Plus;
-use rules::{Alphabet, Answer, Cell};
+use rules::{Alphabet, Answer, Arrays, Cell, Done, Refusal};
 
 // Deletes an identifier: ABSENT, or done with the row removed.
 pub fn delete(base: &mut [i32], check: &mut [i32], key: &[u8]) -> Answer
     requires { Deletes base.old check.old key.now }
     ensures { Edits (sound_edit chained document01 base.old check.old (delete key.now)) result base.new check.new }
 {
-    let looked = finding::look_up(base, check, key);
-    let row = looked.row;
-    if row.0 == 0 {
-        return Answer::Absent;
-    }
-    remove(base, check, looked.cell, key);
-    Answer::Found(row)
+    let looked = finding::look_up(Arrays { base, check }, key);
+    let Some(row) = looked.row else {
+        return Err(Refusal::Absent);
+    };
+    remove(base, check, looked.reached.cell, key);
+    Ok(Done::Row(row))
 }
 
 // The characters of the identifier lead to the cell s, and its end mark to a leaf. Frees the leaf, then each parent left without a
@@ -46,5 +45,5 @@ pub fn compact(base: &mut [i32], check: &mut [i32], n: usize) -> Answer
     requires { sound document01 base.old check.old ≡ true }
     ensures { Edits (sound_edit chained document01 base.old check.old (compact n)) result base.new check.new }
 {
-    Answer::Done(compaction::compact(base, check, n))
+    Ok(Done::Count(compaction::compact(base, check, n)))
 }

@@ -30,8 +30,8 @@ module _ {course : Course} {t : Table} {base check : List ℤ} where
     pub unfit_left : is_err r ≡ true → (course.fitted ≡ false) × Shown base check t
     unfit_left e = let f = room_lacks course.fitted (ap is_err (sym g.fitted) ∙ e) in (f, rw f at g.left)
 
-    pub unfit_says : is_err r ≡ true → r ≡ Err NoRoom
-    unfit_says e = g.fitted ∙ ap room (unfit_left e).0
+  pub unfit_says : {x : Refusal} → Grown course t (Err x) base check → x ≡ NoRoom
+  unfit_says g = let e = g.fitted ∙ ap room (unfit_left g refl).0 in cc
 
   -- ---- what is said of a course
 

@@ -7,9 +7,10 @@ use Prim.Native.Nat.{ℕ, ◌-◌, ◌≤◌}
 use lib.ListN.{length, take, drop}
 use lib.IntN.{ℤ}
 use borrow.Author.Tests.{lt-ltb}
-use Rattle.rules.specs.declared.Answer.{Answer}
-use Rattle.rules.specs.declared.Answer.TheVariants.{Done, NoRoom}
-use Rattle.rules.specs.Answers.{present}
+use Rattle.std.specs.Prelude.{Option, Some, None, Err}
+use Rattle.rules.specs.declared.Refusal.TheVariants.{NoRoom, Present}
+use Rattle.rules.specs.declared.Row.{Row}
+use Rattle.rules.specs.Answers.{Answer, counted, present}
 use Rattle.rules.specs.WhatTheIndexDoes.{document01, coded, last_cell}
 use Rattle.rules.specs.Table.{Table, lookup}
 use Rattle.rules.specs.Rendering.{chained, read_cells, read_table}
@@ -29,8 +30,9 @@ use Rattle.tree.proofs.Stopping.{Stops, leaf_none, walk_begins}
 use Rattle.cells.specs.Edits.{Shown}
 use Rattle.tree.proofs.Outcomes.{shown_same, stored_done, stored_refused}
 use Rattle.finding.specs.Reaching.{LooksUp}
+use Rattle.finding.proofs.Options.{row_none}
 use Rattle.finding.proofs.RowFound.{reached_is}
-use Rattle.finding.proofs.KnownSound.{row_held}
+use Rattle.finding.proofs.KnownSound.{none_held, some_held, held_some}
 use Rattle.insertion.specs.Inserting.{extension, Inserts, Extends, Extended}
 
 module _ {base check : List ℤ} {key : List ℕ} {row : ℕ} (i : Inserts base check key row) where
@@ -49,21 +51,23 @@ module _ {base check : List ℤ} {key : List ℕ} {row : ℕ} (i : Inserts base 
   abbrev edit : Answer → List ℤ → List ℤ → Type 0
   edit = Edits (sound_edit chained document01 base check (insert key row))
 
-  module _ {cell met n : ℕ} (w : LooksUp base check key cell met n) where
-    held_is : lookup document01 (read_cells base check) key ≡ n
-    held_is = row_held base check i.whole key i.identifier w
-
-    pub is_present : 1 ≤ n → edit (present n) base check
+  module _ {cell met : ℕ} {held : Option Row} (w : LooksUp base check key cell met held) where
+    pub is_present : {n : Row} → held ≡ Some n → edit (Err (Present n)) base check
     unfolding sound_edit carried_out read_table
-    is_present h = rw (held_is, lt-ltb 0 n h) (stored_refused base check t refl refl refl)
+    is_present {n} e =
+        rw (some_held base check i.whole key i.identifier w e, lt-ltb 0 n.0 (held_some base check i.whole key i.identifier w e))
+        (stored_refused base check t refl refl refl)
 
     -- ---- the identifier is not live
 
-    module _ (z : n ≡ 0) where
+    module _ (z : held ≡ None) where
+      held_is : lookup document01 (read_cells base check) key ≡ 0
+      held_is = none_held base check i.whole key i.identifier w z
+
       stops : Stops renders (last_cell base) row 1 key (record { cell = cell; met = met })
       unfolding read_table row_found leaf_at
       stops = rw (reached_is (w.walked.reaches coded_key)) (walk_begins renders document01_round_trip (last_cell base) row 1 key coded_key renders.table.tree.root_base
-          (leaf_none renders (length key) _ (sym (w.row_is coded_key) ∙ z)))
+          (leaf_none renders (length key) _ (row_none (sym z ∙ w.row_is coded_key))))
 
       abbrev rest : List ℕ
       rest = take (length key - met) (drop met key)
@@ -85,7 +89,7 @@ module _ {base check : List ℤ} {key : List ℕ} {row : ℕ} (i : Inserts base 
 
       held_now : lookup document01 t.cells key ≡ 0
       unfolding read_table
-      held_now = held_is ∙ z
+      held_now = held_is
 
       -- The course, and the answer to it.
       abbrev course : Course
@@ -98,8 +102,8 @@ module _ {base check : List ℤ} {key : List ℕ} {row : ℕ} (i : Inserts base 
       module _ {r : Answer} {base' check' : List ℤ} (len : length base' ≡ length base) (x : Extended course t r base' check') where
         -- By whether the course fits.
         carried : (b : Bool) → course.fitted ≡ b →
-            let fitting : Outcome = record { answer = Done course.count; table = course.table } in
-            let refused : Outcome = record { answer = NoRoom; table = t } in
+            let fitting : Outcome = record { answer = counted course.count; table = course.table } in
+            let refused : Outcome = record { answer = Err NoRoom; table = t } in
             Edits (stored chained document01 base check (cond b fitting refused)) r base' check'
         carried true f = rw (rw f at x.answer) (stored_done base check refl len (rw f at x.left))
         carried false f = let (b, c) = shown_same shown (rw f at x.left) len in rw (rw f at x.answer) (stored_refused base check t refl b c)

@@ -7,7 +7,10 @@ use Prim.Native.Nat.{ℕ, ◌+◌, ◌≤◌, max}
 use native.Mathlib.Omega.{arith}
 use lib.ListN.{length}
 use lib.IntN.{ℤ}
+use Rattle.std.specs.Prelude.{Result, Ok, Err}
+use Rattle.std.specs.Result.{is_err}
 use Rattle.numbers.specs.Stored.{plus_at}
+use Rattle.rules.specs.declared.Refusal.{Refusal}
 use Rattle.rules.specs.WhatTheIndexDoes.{GREATEST, document01, last_cell}
 use Rattle.rules.specs.Table.{Cells, Table, used, child_codes}
 use Rattle.rules.specs.Insertion.{relocate, Course}
@@ -31,7 +34,7 @@ use Rattle.growing.specs.Branches.{growth, Grows, Grown}
 use Rattle.insertion.specs.Inserting.{relocated, MovesAndGrows}
 use Rattle.cells.proofs.Shown.{shown_small, shown_size, shown_base}
 use Rattle.insertion.proofs.Extending.{s_inside}
-use Rattle.growing.proofs.Leaving.{fits_left, unfit_left, left_fits, left_unfit}
+use Rattle.growing.proofs.Leaving.{fits_left, unfit_left}
 
 module _ {base check : List ℤ} {s : ℕ} {rest : List ℕ} {row q far : ℕ} {codes : List ℕ} {t : Table}
     (m : MovesAndGrows base check s rest row q far codes t) where
@@ -109,13 +112,15 @@ module _ {base check : List ℤ} {s : ℕ} {rest : List ℕ} {row q far : ℕ} {
     -- The rest is to grow from s.
     pub grows : length base' ≡ length base → Shown base' check' (relocated t s q far) → Grows base' check' s rest row (relocated t s q far)
     grows len shown = record {
-      shown = shown;
-      some = based_pos tree s m.extends.based;
-      inside = omega (arith, s_inside m.extends);
-      based = rw base_then_lem fit.new;
-      unused = cell_then;
-      fits = let within = (lengths_within base check m.extends.shown.lengths).0 in
-          omega (arith, base_then_lem, m.far_is, m.fits, among_greatest (c ∷ codes) c (inl refl));
+      leads = record {
+        shown = shown;
+        some = based_pos tree s m.extends.based;
+        inside = omega (arith, s_inside m.extends);
+        based = rw base_then_lem fit.new;
+        unused = cell_then;
+        fits = let within = (lengths_within base check m.extends.shown.lengths).0 in
+            omega (arith, base_then_lem, m.far_is, m.fits, among_greatest (c ∷ codes) c (inl refl));
+      };
       row_is = m.extends.row_is;
     }
 
@@ -147,17 +152,20 @@ module _ {base check : List ℤ} {s : ℕ} {rest : List ℕ} {row q far : ℕ} {
   abbrev course : ℕ → Course
   course last = growth last (relocated t s q far) s rest row
 
-  pub of_course : (base' : List ℤ) → length base' ≡ length base → {r : Bool} {base'' check'' : List ℤ} →
-      Grown (course (last_cell base')) (relocated t s q far) r base'' check'' → Grown (course (last_cell base)) (relocated t s q far) r base'' check''
-  of_course base' len g = rw (← len) g
+  module _ {base' check' : List ℤ} {r : Result (Unit {0}) Refusal} (base₁ : List ℤ) (long : length base₁ ≡ length base)
+      (f : Grown (course (last_cell base₁)) (relocated t s q far) r base' check') where
+    g : Grown (course (last_cell base)) (relocated t s q far) r base' check'
+    g = rw (← long) f
 
-  module _ {base' check' : List ℤ} {r : Bool} (g : Grown (course (last_cell base)) (relocated t s q far) r base' check') where
-    pub all_fit : r ≡ true → Grown (course (last_cell base)) t true base' check'
-    all_fit e = let (f, shown) = fits_left g e in left_fits f shown
+    pub all_fit : is_err r ≡ false → Grown (course (last_cell base)) t r base' check'
+    all_fit e = record { fitted = g.fitted; left = let (f, shown) = fits_left g e in rw f shown }
 
-    pub moved_still : r ≡ false → Shown base' check' (relocated t s q far)
+    pub moved_still : is_err r ≡ true → Shown base' check' (relocated t s q far)
     moved_still e = (unfit_left g e).1
 
-    pub all_back : r ≡ false → {n : ℕ} → n ≡ plus_at base 0 → {base'' check'' : List ℤ} → Shown base'' check'' (sized t n) →
-        Grown (course (last_cell base)) t false base'' check''
-    all_back e f shown = left_unfit (unfit_left g e).0 (rw (f ∙ shown_size m.extends.shown) at shown)
+    pub all_back : is_err r ≡ true → {n : ℕ} → n ≡ plus_at base 0 → {base'' check'' : List ℤ} → Shown base'' check'' (sized t n) →
+        Grown (course (last_cell base)) t r base'' check''
+    all_back e is shown = record {
+      fitted = g.fitted;
+      left = rw (unfit_left g e).0 (rw (is ∙ shown_size m.extends.shown) at shown);
+    }

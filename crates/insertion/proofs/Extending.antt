@@ -1,5 +1,5 @@
 -- The node at which the walk stopped: whether it collides, and what is then asked and left. Assumes nothing.
-use mathlib.Core.Path.{◌≡◌, ap₂, ◌∙◌, subst}
+use mathlib.Core.Path.{◌≡◌, refl, ap₂, ◌∙◌, subst}
 use mathlib.Core.Logic.{◌≢◌}
 use mathlib.Core.Bool.{Bool, true, false, ◌||◌, or-true}
 use mathlib.Core.List.{List}
@@ -10,8 +10,10 @@ use lib.IntN.{ℤ}
 use lib.Dec.{ltb}
 use borrow.Author.Tests.{lt-ltb, le-ltb}
 use Rattle.numbers.specs.Stored.{plus_at}
-use Rattle.rules.specs.declared.Answer.{Answer}
-use Rattle.rules.specs.declared.Answer.TheVariants.{Done, NoRoom}
+use Rattle.std.specs.Prelude.{Result, Ok, Err}
+use Rattle.rules.specs.declared.Refusal.{Refusal}
+use Rattle.rules.specs.declared.Refusal.TheVariants.{NoRoom}
+use Rattle.rules.specs.Answers.{Answer, counted}
 use Rattle.rules.specs.WhatTheIndexDoes.{GREATEST, document01, last_cell}
 use Rattle.rules.specs.Table.{Cells, Table, used}
 use Rattle.rules.specs.Insertion.{extend}
@@ -24,7 +26,7 @@ use Rattle.moving.specs.Children.{Collects, Collected}
 use Rattle.growing.specs.Branches.{growth, Grows, Grown}
 use Rattle.insertion.specs.Inserting.{collision, extension, Extends, PlacesAnew, Extended}
 use Rattle.cells.proofs.Shown.{shown_base, shown_parent}
-use Rattle.growing.proofs.Leaving.{fits_left, unfit_left}
+use Rattle.growing.proofs.Leaving.{fits_left, unfit_left, unfit_says}
 use Rattle.insertion.proofs.DoneOrNoRoom.{done, no_room}
 
 module _ {base check : List ℤ} {s : ℕ} {rest : List ℕ} {row : ℕ} {t : Table} (e : Extends base check s rest row t) where
@@ -76,21 +78,21 @@ module _ {base check : List ℤ} {s : ℕ} {rest : List ℕ} {row : ℕ} {t : Ta
         let past : last_cell base < (T s).base + c = omega (arith, cell_is, (lengths_within base check e.shown.lengths).0) in
         rw (lt-ltb (last_cell base) ((T s).base + c) past, or-true)
 
-    is_taken : 1 ≤ plus_at check (b + d) → collides ≡ true
-    is_taken h = rw (parent_used T ((T s).base + c) (rw cell_parent at h))
+    is_taken : {v : ℕ} → v ≡ plus_at check (b + d) → 0 < v → collides ≡ true
+    is_taken says h = rw (parent_used T ((T s).base + c) (omega (arith, says, cell_parent)))
 
     module _ {r : Answer} {base' check' : List ℤ} (x : Extended (collision (last_cell base) t s rest row) t r base' check') where
       pub collides_past : length base ≤ b + d → Extended (extension (last_cell base) t s rest row) t r base' check'
       collides_past h = rw (is_collision (past_last h)) x
 
-      pub collides_taken : 1 ≤ plus_at check (b + d) → Extended (extension (last_cell base) t s rest row) t r base' check'
-      collides_taken h = rw (is_collision (is_taken h)) x
+      pub collides_taken : {v : ℕ} → v ≡ plus_at check (b + d) → 0 < v → Extended (extension (last_cell base) t s rest row) t r base' check'
+      collides_taken says h = rw (is_collision (is_taken says h)) x
 
     -- ---- or not
 
-    module _ (inside : b + d < length base) (clear : plus_at check (b + d) < 1) where
+    module _ (inside : b + d < length base) {v : ℕ} (says : v ≡ plus_at check (b + d)) (clear : v ≤ 0) where
       vacant : used T ((T s).base + c) ≡ false
-      vacant = parentless_unused T ((T s).base + c) cell_far (omega (arith, cell_parent))
+      vacant = parentless_unused T ((T s).base + c) cell_far (omega (arith, says, cell_parent))
 
       cell_fits : (T s).base + c ≤ last_cell base
       cell_fits = omega (arith, cell_is)
@@ -101,21 +103,25 @@ module _ {base check : List ℤ} {s : ℕ} {rest : List ℕ} {row : ℕ} {t : Ta
 
       pub grows : Grows base check s rest row t
       grows = record {
-        shown = e.shown;
-        some = based_pos e.tree s e.based;
-        inside = s_inside;
-        based = e.based;
-        unused = vacant;
-        fits = cell_fits;
+        leads = record {
+          shown = e.shown;
+          some = based_pos e.tree s e.based;
+          inside = s_inside;
+          based = e.based;
+          unused = vacant;
+          fits = cell_fits;
+        };
         row_is = e.row_is;
       }
 
-      module _ {r : Bool} {base' check' : List ℤ} (g : Grown (growth (last_cell base) t s rest row) t r base' check') where
-        pub grown_done : r ≡ true → Extended (extension (last_cell base) t s rest row) t (Done 0) base' check'
-        grown_done y =
-            let (f, shown) = fits_left g y in
+      module _ {base' check' : List ℤ} where
+        pub grown_done : {x : Unit {0}} → Grown (growth (last_cell base) t s rest row) t (Ok x) base' check' →
+            Extended (extension (last_cell base) t s rest row) t (counted 0) base' check'
+        grown_done g =
+            let (f, shown) = fits_left g refl in
             let none = grow_count (last_cell base) T t.size s c (further_labels document01 rest) row in
-            rw is_plain (subst (λ n. Extended (growth (last_cell base) t s rest row) t (Done n) base' check') none (done f shown))
+            rw is_plain (subst (λ n. Extended (growth (last_cell base) t s rest row) t (counted n) base' check') none (done f shown))
 
-        pub grown_none : r ≡ false → Extended (extension (last_cell base) t s rest row) t NoRoom base' check'
-        grown_none y = let (f, shown) = unfit_left g y in rw is_plain (no_room f shown)
+        pub grown_none : {x : Refusal} → Grown (growth (last_cell base) t s rest row) t (Err x) base' check' →
+            Extended (extension (last_cell base) t s rest row) t (Err x) base' check'
+        grown_none g = let (f, shown) = unfit_left g refl in rw (is_plain, unfit_says g) (no_room f shown)

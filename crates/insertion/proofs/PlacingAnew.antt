@@ -11,7 +11,10 @@ use lib.Seq.{take_all}
 use lib.IntN.{ℤ}
 use lib.Dec.{leb}
 use borrow.Author.Tests.{le-leb, lt-leb}
-use Rattle.rules.specs.declared.Answer.TheVariants.{Done, NoRoom}
+use Rattle.std.specs.Prelude.{Result, Ok, Err}
+use Rattle.rules.specs.declared.Refusal.{Refusal}
+use Rattle.rules.specs.declared.Refusal.TheVariants.{NoRoom}
+use Rattle.rules.specs.Answers.{counted}
 use Rattle.rules.specs.WhatTheIndexDoes.{GREATEST, document01, last_cell}
 use Rattle.rules.specs.Table.{Cells, Table, used, child_codes}
 use Rattle.rules.specs.Placement.{greatest_of, placed, fits}
@@ -29,7 +32,7 @@ use Rattle.placing.specs.Search.{Codes}
 use Rattle.growing.specs.Branches.{growth, Grown}
 use Rattle.insertion.specs.Inserting.{collision, relocated, PlacesAnew, MovesAndGrows, Extended}
 use Rattle.cells.proofs.Shown.{shown_small}
-use Rattle.growing.proofs.Leaving.{fits_left, unfit_left}
+use Rattle.growing.proofs.Leaving.{fits_left, unfit_left, unfit_says}
 use Rattle.insertion.proofs.DoneOrNoRoom.{done, no_room}
 
 -- Behind the first of some codes.
@@ -109,19 +112,21 @@ module _ {base check : List ℤ} {s : ℕ} {rest : List ℕ} {row : ℕ} {codes 
       unfolding collide
       collision_count = omega (arith, ap length a.codes_are)
 
-      pub past_last : length base ≤ far → Extended (collision (last_cell base) t s rest row) t NoRoom base check
+      pub past_last : length base ≤ far → Extended (collision (last_cell base) t s rest row) t (Err NoRoom) base check
       past_last h =
           let past : last_cell base < far = omega (arith, (lengths_within base check a.extends.shown.lengths).0) in
           no_room (collision_fitted ∙ rw (lt-leb far (last_cell base) past) refl) a.extends.shown
 
-      module _ {base' check' : List ℤ} {r : Bool} (h : far ≤ last_cell base) (grown : Grown on t r base' check') where
+      module _ (h : far ≤ last_cell base) where
         fitted_on : (collision (last_cell base) t s rest row).fitted ≡ on.fitted
         fitted_on = collision_fitted ∙ rw (le-leb far (last_cell base) h) refl
 
-        pub all_placed : r ≡ true → Extended (collision (last_cell base) t s rest row) t (Done (length codes - 1)) base' check'
-        all_placed e =
-            let (f, shown) = fits_left grown e in
-            subst (λ n. Extended (collision (last_cell base) t s rest row) t (Done n) base' check') collision_count (done (fitted_on ∙ f) (rw collision_table shown))
+        pub all_placed : {base' check' : List ℤ} {x : Unit {0}} → Grown on t (Ok x) base' check' →
+            Extended (collision (last_cell base) t s rest row) t (counted (length codes - 1)) base' check'
+        all_placed {base' = base'} {check' = check'} g =
+            let (f, shown) = fits_left g refl in
+            subst (λ n. Extended (collision (last_cell base) t s rest row) t (counted n) base' check') collision_count (done (fitted_on ∙ f) (rw collision_table shown))
 
-        pub not_placed : r ≡ false → Extended (collision (last_cell base) t s rest row) t NoRoom base' check'
-        not_placed e = let (f, shown) = unfit_left grown e in no_room (fitted_on ∙ f) shown
+        pub not_placed : {base' check' : List ℤ} {x : Refusal} → Grown on t (Err x) base' check' →
+            Extended (collision (last_cell base) t s rest row) t (Err x) base' check'
+        not_placed g = let (f, shown) = unfit_left g refl in rw (unfit_says g) (no_room (fitted_on ∙ f) shown)

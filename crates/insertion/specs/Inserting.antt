@@ -1,7 +1,7 @@
 -- What the parts of an insertion are asked, and what they leave.
-use Rattle.std.specs.Prelude.{◌≡◌, true, cond, List, ◌∷◌, ℕ, ◌+◌, ◌≤◌, max, ℤ}
-use Rattle.rules.specs.declared.Answer.{Answer}
-use Rattle.rules.specs.declared.Answer.TheVariants.{Done, NoRoom}
+use Rattle.std.specs.Prelude.{◌≡◌, true, cond, Err, List, ◌∷◌, ℕ, ◌+◌, ◌≤◌, max, ℤ}
+use Rattle.rules.specs.declared.Refusal.TheVariants.{NoRoom}
+use Rattle.rules.specs.Answers.{Answer, counted}
 use Rattle.rules.specs.WhatTheIndexDoes.{GREATEST, document01, is_identifier, is_row, last_cell}
 use Rattle.rules.specs.Table.{Table, used, next, child_codes}
 use Rattle.rules.specs.ASoundTable.{sound}
@@ -62,5 +62,5 @@ relocated t s q far = celled (sized t (max t.size far)) (relocate t.cells s q)
 
 -- The answer to a course, and the rendering of what it leaves.
 pub record Extended (course : Course) (t : Table) (r : Answer) (base check : List ℤ) : Type 0 where
-  pub answer : r ≡ cond course.fitted (Done course.count) NoRoom
+  pub answer : r ≡ cond course.fitted (counted course.count) (Err NoRoom)
   pub left : Shown base check (leaves course t)

@@ -11,21 +11,21 @@ ghost use Rattle.rules.specs.Promised.{Edits};
 ghost use Rattle.growing.specs.Branches.{growth, Grown};
 ghost use Rattle.insertion.specs.Inserting.{Inserts, Extends, PlacesAnew, MovesAndGrows, collision, extension, relocated, Extended};
 
+use finding::Reached;
 use numbers::Plus;
-use rules::{Alphabet, Answer, Cell, Row};
+use rules::{Alphabet, Answer, Arrays, Cell, Done, Refusal, Row};
 
 // Inserts an identifier: PRESENT, NO ROOM, or done with the number of children that changed cell.
 pub fn insert(base: &mut [i32], check: &mut [i32], key: &[u8], row: Row) -> Answer
     requires { Inserts base.old check.old key.now row.0 }
     ensures { Edits (sound_edit chained document01 base.old check.old (insert key.now row.0)) result base.new check.new }
 {
-    let looked = finding::look_up(base, check, key);
-    let held = looked.row;
-    if held.0 != 0 {
-        return Answer::Present(held);
+    let looked = finding::look_up(Arrays { base, check }, key);
+    if let Some(held) = looked.row {
+        return Err(Refusal::Present(held));
     }
-    let met = looked.met;
-    extend(base, check, looked.cell, &key[met..], row)
+    let Reached { cell, met } = looked.reached;
+    extend(base, check, cell, &key[met..], row)
 }
 
 // At the node s, where the first label of the rest leads nowhere. If that label's cell is used or past the last cell, the node
@@ -35,17 +35,11 @@ fn extend(base: &mut [i32], check: &mut [i32], s: Cell, rest: &[u8], row: Row) -
     ensures { EveryTable (Extends base.old check.old s.0 rest.now row.0) (λ t. Extended (extension (last_cell base.old) t s.0 rest.now row.0) t result base.new check.new) }
 {
     let u = numbers::at::<Plus>(base, s.0) + growing::label(rest);
-    if base.len() <= u {
+    if base.len() <= u || 0 < numbers::at::<Plus>(check, u) {
         return collide(base, check, s, rest, row);
     }
-    if 0 < numbers::at::<Plus>(check, u) {
-        return collide(base, check, s, rest, row);
-    }
-    if growing::grow(base, check, s, rest, row) {
-        Answer::Done(0)
-    } else {
-        Answer::NoRoom
-    }
+    growing::grow(base, check, s, rest, row)?;
+    Ok(Done::Count(0))
 }
 
 // The node s collides: its base becomes the placed base for its children's codes and the new one, and its children move.
@@ -73,17 +67,14 @@ fn place_anew(
     let q = placing::place(base, check, codes);
     let far = q + placing::greatest(codes);
     if base.len() <= far {
-        return Answer::NoRoom;
+        return Err(Refusal::NoRoom);
     }
-    if move_and_grow(base, check, s, rest, row, q, far, &codes[1..]) {
-        Answer::Done(codes.len() - 1)
-    } else {
-        Answer::NoRoom
-    }
+    move_and_grow(base, check, s, rest, row, q, far, &codes[1..])?;
+    Ok(Done::Count(codes.len() - 1))
 }
 
 // The children of s, whose codes these are, move to base q, and the rest grows from there. Where a later label does not fit, they
-// go back to where they were.
+// go back to where they were: NO ROOM.
 fn move_and_grow(
     base: &mut [i32],
     check: &mut [i32],
@@ -93,7 +84,7 @@ fn move_and_grow(
     q: usize,
     far: usize,
     codes: &[usize],
-) -> bool
+) -> Result<(), Refusal>
     requires { SomeTable (MovesAndGrows base.old check.old s.0 rest.now row.0 q far codes.now) }
     ensures { EveryTable (MovesAndGrows base.old check.old s.0 rest.now row.0 q far codes.now) (λ t. Grown (growth (last_cell base.old) (relocated t s.0 q far) s.0 rest.now row.0) t result base.new check.new) }
 {
@@ -101,10 +92,10 @@ fn move_and_grow(
     let b = numbers::at::<Plus>(base, s.0);
     cells::widen(base, check, far);
     moving::relocate(base, check, s, q, codes);
-    if growing::grow(base, check, s, rest, row) {
-        return true;
+    let grown = growing::grow(base, check, s, rest, row);
+    if grown.is_err() {
+        moving::relocate(base, check, s, b, codes);
+        cells::shrink(base, check, size);
     }
-    moving::relocate(base, check, s, b, codes);
-    cells::shrink(base, check, size);
-    false
+    grown
 }

@@ -1,20 +1,20 @@
 -- `delete` looks the identifier up; it answers ABSENT, or removes it. Assumes nothing.
-use native.Mathlib.Omega.{arith}
-use Rattle.finding.proofs.KnownSound.{lengths}
+use Rattle.finding.proofs.KnownSound.{same_length, enough, few}
 use Rattle.deletion.proofs.CarriedOut.{is_absent, removes, is_removed}
 use Rattle.deletion.proofs.delete.Goals as goal
 
-pub look_up-looked-requires : goal.look_up-looked-requires
-look_up-looked-requires c = lengths _ _ c.requires.whole
+pub invariant_of-look_up : goal.invariant_of-look_up
+invariant_of-look_up c =
+    let whole = c.requires.whole in
+    record { same_length = same_length _ _ whole; enough = enough _ _ whole; few = few _ _ whole }
 
-pub returns-then-row-eq0 : goal.returns-then-row-eq0
-returns-then-row-eq0 c = is_absent c.requires c.look_up-looked.ensures (omega arith)
+pub returns-in_default : goal.returns-in_default
+returns-in_default c = is_absent c.requires c.look_up-looked.ensures c.in_default.is
 
 pub remove-requires : goal.remove-requires
-remove-requires c = (_, removes c.requires c.look_up-looked.ensures c.if-row-eq0.false)
+remove-requires c = (_, removes c.requires c.look_up-looked.ensures c.in-Some.is)
 
 pub returns : goal.returns
 returns c =
     let w = c.look_up-looked.ensures in
-    let d = c.if-row-eq0.false in
-    is_removed c.requires w d c.remove.auto.base (c.remove.ensures _ (removes c.requires w d))
+    is_removed c.requires w c.in-Some.is c.remove.auto.base (c.remove.ensures _ (removes c.requires w c.in-Some.is))

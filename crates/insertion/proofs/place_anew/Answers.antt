@@ -1,5 +1,6 @@
 -- `place_anew` seeks the placed base, refuses one that does not fit, and otherwise moves and grows. Assumes nothing.
 use native.Mathlib.Omega.{arith}
+use Rattle.std.proofs.lemmas.Result.{err_from_is_err_and}
 use Rattle.cells.proofs.Placed.{searches, finds_placed}
 use Rattle.insertion.proofs.PlacingAnew.{anew_codes, base_small, greatest_small, moves, past_last, all_placed, not_placed}
 use Rattle.insertion.proofs.place_anew.Goals as goal
@@ -30,14 +31,13 @@ move_and_grow-requires c =
 pub overflow_sub-result : goal.overflow_sub-result
 overflow_sub-result c = let (t, a) = c.requires in omega (arith, (anew_codes a).some)
 
-pub returns-then-move_and_grow : goal.returns-then-move_and_grow
-returns-then-move_and_grow c = λ t a.
+pub returns-in_err-move_and_grow : goal.returns-in_err-move_and_grow
+returns-in_err-move_and_grow c = λ t a.
     let q = finds_placed a.extends.shown (anew_codes a) c.place-q.ensures in
-    let g = c.move_and_grow.ensures t (moves a q c.greatest.ensures (omega arith)) in
-    all_placed a q c.greatest.ensures (omega arith) g c.if-move_and_grow.true
+    let p = err_from_is_err_and c.from_residual.result c.from_residual.ensures.1 in
+    rw (p.1, p.2) (not_placed a q c.greatest.ensures (omega arith) (c.in_err-move_and_grow.ensures t (moves a q c.greatest.ensures (omega arith))))
 
-pub returns-else-move_and_grow : goal.returns-else-move_and_grow
-returns-else-move_and_grow c = λ t a.
+pub returns : goal.returns
+returns c = λ t a.
     let q = finds_placed a.extends.shown (anew_codes a) c.place-q.ensures in
-    let g = c.move_and_grow.ensures t (moves a q c.greatest.ensures (omega arith)) in
-    not_placed a q c.greatest.ensures (omega arith) g c.if-move_and_grow.false
+    all_placed a q c.greatest.ensures (omega arith) (c.in_ok-move_and_grow.ensures t (moves a q c.greatest.ensures (omega arith)))
