@@ -156,15 +156,16 @@ impl<'a> Stated<'a> {
     {
         for below in 1..self.size {
             let t = below + 1;
-            if numbers::is_plus_in(self.check, t) {
-                if !self.has_fruit(parents, Cell(t)) {
-                    return false;
-                }
-                let Some(depth) = self.climb(depths, Cell(t)) else {
-                    return false;
-                };
-                depths[t] = depth as u8;
+            if !numbers::is_plus_in(self.check, t) {
+                continue;
             }
+            if !self.has_fruit(parents, Cell(t)) {
+                return false;
+            }
+            let Some(depth) = self.climb(depths, Cell(t)) else {
+                return false;
+            };
+            depths[t] = depth as u8;
         }
         true
     }

@@ -9,5 +9,5 @@ use Rattle.audit.proofs.Stated.are_ways_kept.Goals as goal
 pub returns-then-not-has_fruit : goal.returns-then-not-has_fruit
 returns-then-not-has_fruit c =
     let marked = as_said _ (marks_say c.requires.marks (c.loop-below.below + 1) (omega arith)) in
-    let used = tested_some _ c.is_plus_in.ensures c.if-is_plus_in.true in
+    let used = tested_some _ c.is_plus_in.ensures c.if-not-is_plus_in.false in
     says_no (λ w. c.has_fruit.ensures.no c.if-not-has_fruit.true (λ h. marked ∙ (w _ (omega arith) (omega arith) used).fruit h))
