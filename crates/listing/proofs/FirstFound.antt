@@ -1,7 +1,9 @@
 -- The first label that leads somewhere, of the last so many labels of a cell: the labels before it have no lines. Assumes nothing.
 use mathlib.Core.Path.{◌≡◌, refl, ◌∙◌}
 use mathlib.Core.Logic.{◌≢◌}
-use mathlib.Core.Bool.{true}
+use mathlib.Core.Bool.{true, false}
+use Rattle.std.specs.Prelude.{is_some}
+use Rattle.rules.specs.Options.{some_cell}
 use mathlib.Core.List.{List}
 use Prim.Native.Nat.{ℕ, zero, suc, ◌-◌, ◌≤◌}
 use native.Mathlib.Numerals.{sub-one}
@@ -17,6 +19,16 @@ use Rattle.rules.proofs.Choices.{branch}
 use Rattle.tree.proofs.Listing.{listed_within}
 use Rattle.listing.specs.Visiting.{first_found, lines_tried}
 use Rattle.listing.proofs.LinesFound.{tried_skip}
+
+-- ---- whether a label leads somewhere
+
+pub is_led : {n : ℕ} → is_some (some_cell n) ≡ true → n ≢ 0
+is_led {n = zero} e z = cc
+is_led {n = suc n} e z = omega arith
+
+pub not_led : {n : ℕ} → is_some (some_cell n) ≡ false → n ≡ 0
+not_led {n = zero} e = refl
+not_led {n = suc n} e = cc
 
 -- ---- one label after another
 

@@ -10,7 +10,9 @@ use lib.ListN.{length}
 use lib.IntN.{ℤ}
 use lib.Dec.{leb}
 use borrow.Author.Tests.{le-leb, lt-leb, leb-true}
-use Rattle.rules.specs.declared.Answer.TheVariants.{Done, NoSpace}
+use Rattle.std.specs.Prelude.{Err}
+use Rattle.rules.specs.declared.Refusal.TheVariants.{NoSpace}
+use Rattle.rules.specs.Answers.{counted}
 use Rattle.rules.specs.WhatTheIndexDoes.{document01}
 use Rattle.rules.specs.ASoundTable.{sound, size_at}
 use Rattle.rules.specs.Listing.{entries, listing}
@@ -51,20 +53,20 @@ module _ (base check : List ℤ) where
 
   -- ---- writing
 
-  pub root_visits : sound document01 base check ≡ true → {characters out : List ℕ} → length characters ≡ DEEPEST →
-      leb (length bytes) (length out) ≡ true → Visits base check 1 DEEPEST characters 0 out 0
+  pub root_visits : sound document01 base check ≡ true → {out : List ℕ} → leb (length bytes) (length out) ≡ true →
+      Visits base check 1 DEEPEST [] out 0
   unfolding listing entries
-  root_visits whole {out = out} long h = record {
+  root_visits whole {out = out} h = record {
     whole = whole;
-    beginning = record { long = long; short = omega arith };
+    short = omega arith;
     fits = record { enough = omega (arith, leb-true (length bytes) (length out) h) };
   }
 
-  pub list_no_space : {out : List ℕ} → leb (length bytes) (length out) ≡ false → Writes (sound_list document01 base check out) NoSpace out
+  pub list_no_space : {out : List ℕ} → leb (length bytes) (length out) ≡ false → Writes (sound_list document01 base check out) (Err NoSpace) out
   unfolding sound_list
   list_no_space h = rw h (record { answer = refl; out_is = refl })
 
   pub list_done : {out out' : List ℕ} {r : ℕ} → leb (length bytes) (length out) ≡ true → Lists (lines_below base check 1 DEEPEST []) out out' 0 r →
-      Writes (sound_list document01 base check out) (Done r) out'
+      Writes (sound_list document01 base check out) (counted r) out'
   unfolding sound_list listing entries
-  list_done h w = rw h (record { answer = ap Done (omega (arith, w.end)); out_is = w.out_is })
+  list_done h w = rw h (record { answer = ap counted (omega (arith, w.end)); out_is = w.out_is })

@@ -1,5 +1,5 @@
 -- `visit` and `try_label` call each other. The measure of a visit is 40 times its depth; that of a label tried is that of a visit below
--- it, with the labels left and one more. The measure of the loop over the labels is the number of labels left. Assumes nothing.
+-- it, with the labels left and one more. Assumes nothing.
 use Prim.Native.Nat.{◌+◌, ◌*◌, ◌-◌}
 use Rattle.listing.proofs.Visiting.{Trying}
 use Rattle.listing.proofs.+try_label_visit.Given as goal
@@ -11,7 +11,7 @@ abbrev pub decreases-visit : goal.decreases-visit
 decreases-visit l = l.depth * 40
 
 abbrev pub invariant-visit-loop-left : goal.invariant-visit-loop-left
-invariant-visit-loop-left l = Trying l.base l.check l.s.0 (l.depth - 1) l.initial.key l.length l.initial.out l.at l.key l.out l.end l.left
+invariant-visit-loop-left l = Trying l.arrays.base.now l.arrays.check.now l.s.0 (l.depth - 1) l.initial.key l.initial.out l.at l.key l.out l.end l.labels
 
 abbrev pub decreases-visit-loop-left : goal.decreases-visit-loop-left
-decreases-visit-loop-left l = l.left
+decreases-visit-loop-left l = l.labels

@@ -1,12 +1,8 @@
--- `first_found` tries label after label. The loop's invariant: the labels left have the same first one that leads somewhere. The measure
--- is the number of labels left. Assumes nothing.
+-- `first_found` tries label after label. The loop's invariant: the labels left have the same first one that leads somewhere. Assumes
+-- nothing.
 use mathlib.Core.Path.{◌≡◌}
-use Prim.Native.Nat.{◌≤◌}
 use Rattle.listing.specs.Visiting.{first_found}
 use Rattle.listing.proofs.first_found.Given as goal
 
-abbrev pub invariant-loop-left : goal.invariant-loop-left
-invariant-loop-left l = (l.left ≤ l.labels) × (first_found l.base l.check l.s.0 l.left ≡ first_found l.base l.check l.s.0 l.labels)
-
-abbrev pub decreases-loop-left : goal.decreases-loop-left
-decreases-loop-left l = l.left
+abbrev pub invariant-loop-behind : goal.invariant-loop-behind
+invariant-loop-behind l = first_found l.arrays.base.now l.arrays.check.now l.s.0 l.behind ≡ first_found l.arrays.base.now l.arrays.check.now l.s.0 l.labels
