@@ -3,7 +3,7 @@ use mathlib.Core.Path.{◌≡◌, refl, sym, ap, ap₂, ◌∙◌}
 use mathlib.Core.Bool.{true, false, ◌&&◌}
 use mathlib.Core.List.{List, [], ◌∷◌, ◌++◌, append_assoc, append-nil}
 use Prim.Native.Nat.{ℕ, zero, suc, ◌+◌, ◌*◌, ◌-◌, ◌≤◌, ◌<◌, ◌^◌}
-use native.Mathlib.Nat.{pow-suc}
+use native.Mathlib.Nat.{pow-suc, pow-le-pow_right}
 use native.Mathlib.Numerals.{add-one}
 use native.Mathlib.Omega.{arith}
 use lib.ListN.{length, get_or, take, drop, set, drop_of_length-le, length-append, length-set}
@@ -68,6 +68,12 @@ module _ (bytes : List ℕ) where
 
       front : drop j bytes ≡ b ∷ drop (j + 1) bytes
       front = rw add-one (drop-cons bytes j 0 h)
+
+      pub number_fits : length bytes ≤ 8 → n * 16 + 15 < 4294967296
+      number_fits few =
+          let p : 16 ^ (j + 1) ≤ 16 ^ 8 = pow-le-pow_right {n = 16} (omega arith) {i = j + 1} {j = 8} (omega arith) in
+          let q : 16 ^ (j + 1) ≡ 16 ^ j * 16 = rw (add-one, pow-suc) in
+          omega (arith, g.small)
 
       pub not_read : (48 ≤ b → 57 < b) → (97 ≤ b → 102 < b) → NumberRead bytes None
       not_read l m = record { is = rw (← g.digits_left, front, digits_none b _ (neither b l m)); small = tt }
