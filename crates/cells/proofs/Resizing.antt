@@ -4,11 +4,13 @@ use mathlib.Core.Path.{◌≡◌, refl, sym, ap, ◌∙◌}
 use mathlib.Core.Logic.{◌≢◌, ⊎_elim}
 use mathlib.Core.Bool.{Bool, true, false, not, true≢false}
 use mathlib.Core.List.{List}
-use Prim.Native.Nat.{ℕ, suc, ◌≤◌, ◌<◌}
-use native.Mathlib.Nat.{le_antisymm}
+use Prim.Native.Nat.{ℕ, suc, ◌+◌, ◌-◌, ◌≤◌, ◌<◌}
 use native.Mathlib.Omega.{arith}
-use lib.ListN.{length, set, length-set}
+use lib.ListN.{length, get_or, set, length-set, replicate, length-replicate}
 use lib.IntN.{ℤ}
+use borrow.Rule.Slice.PartMut.{put_mid}
+use Rattle.std.proofs.Common.{rules}
+use Rattle.std.proofs.lemmas.List.{places, get_or-replicate}
 use borrow.Author.Tests.{le-leb, lt-leb, ne_eqb}
 use Rattle.numbers.specs.Stored.{positive, negative}
 use Rattle.numbers.proofs.Cases.{lt_or_ge}
@@ -26,49 +28,73 @@ use Rattle.cells.proofs.Stores.{Holds, checks, check_linked, stored, show_again}
 
 -- ---- the links
 
-next_wider : {m : ℕ → Bool} {size i v : ℕ} → Next m size i v → m (suc size) ≡ true → Next m (suc size) i v
-next_wider {size = size} {v = v} w e = record {
+next_wider : {m : ℕ → Bool} {n size i v : ℕ} → Next m n i v → n ≤ size → ((u : ℕ) → n < u → u ≤ size → m u ≡ true) → Next m size i v
+next_wider {n = n} {v = v} w l free = record {
   after = w.after;
   within = omega (arith, w.within);
   none = w.none;
-  named = λ h. ⊎_elim (λ l. rw (le_antisymm w.within l) e) w.named (lt_or_ge size v);
+  named = λ h. ⊎_elim (λ k. free v k h) w.named (lt_or_ge n v);
 }
+
+-- ---- an element after a write to the k elements from a on
+
+module _ (a k : ℕ) (xs ys : List ℤ) (i : ℕ) (d : ℤ) where
+  part_before : i < a → a ≤ length xs → get_or (put_mid a k xs ys) i d ≡ get_or xs i d
+  part_before h l = search (rules, places)
+
+  part_within : a ≤ i → i - a < length ys → a ≤ length xs → get_or (put_mid a k xs ys) i d ≡ get_or ys (i - a) d
+  part_within h l m = search (rules, places)
+
+  part_past : length ys ≡ k → a + k ≤ i → a + k ≤ length xs → get_or (put_mid a k xs ys) i d ≡ get_or xs i d
+  part_past e h l = search (rules, places)
 
 -- No cell past n is used.
 module _ (t : Table) (n : ℕ) (past : (u : ℕ) → n < u → used t.cells u ≡ false) where
-  next_sized : (i : ℕ) → i ≤ n → next_free (sized t (suc n)) i ≡ next_free (sized t n) i
-  next_sized i h = next_one (next_free_lem (sized t (suc n)) i (omega arith))
-      (next_wider (next_free_lem (sized t n) i h) (ap not (past (suc n) (omega arith))))
+  next_sized : (size i : ℕ) → n ≤ size → i ≤ n → next_free (sized t size) i ≡ next_free (sized t n) i
+  next_sized size i l h = next_one (next_free_lem (sized t size) i (omega arith))
+      (next_wider (next_free_lem (sized t n) i h) l (λ u k _. ap not (past u k)))
 
   next_last : next_free (sized t (suc n)) (suc n) ≡ suc (suc n)
   next_last = next_one (next_free_lem (sized t (suc n)) (suc n) (omega arith))
       (record { after = omega arith; within = omega arith; none = λ u l k. absurd (omega arith); named = λ h. absurd (omega arith) })
 
-  -- ---- check, with one cell more or less
+  -- ---- check
 
-  check_sized : (i : ℕ) → i ≢ suc n → checks (sized t (suc n)) i ≡ checks (sized t n) i
+  -- Up to n, and past the larger size, it is the same.
+  check_sized : (size i : ℕ) → n ≤ size → (n < i → i ≤ size → ⊥) → checks (sized t size) i ≡ checks (sized t n) i
   unfolding check_of
-  check_sized i d = ⊎_elim
-      (λ l. rw (lt-leb i n l, lt-leb i (suc n) (omega arith)))
-      (λ l. rw (le-leb i n l, le-leb i (suc n) (omega arith), next_sized i l))
+  check_sized size i h apart = ⊎_elim
+      (λ l. rw (lt-leb i n l, lt-leb i size (⊎_elim (λ k. k) (λ k. absurd (apart l k)) (lt_or_ge size i))))
+      (λ l. rw (le-leb i n l, le-leb i size (omega arith), next_sized size i h l))
       (lt_or_ge n i)
 
   check_last : negative (suc (suc n)) ≡ checks (sized t (suc n)) (suc n)
   check_last = check_linked (sized t (suc n)) (suc n) (past (suc n) (omega arith)) (omega arith) (sym next_last)
 
-  check_beyond : positive 0 ≡ checks (sized t n) (suc n)
-  check_beyond = sym (check_past chained document01 (sized t n) (suc n) (past (suc n) (omega arith)) (omega arith))
+  -- With one cell more.
+  pub check_wider : (check : List ℤ) → suc n < length check → Holds check (checks (sized t n)) →
+      Holds (set check (suc n) (negative (suc (suc n)))) (checks (sized t (suc n)))
+  check_wider check long held i = stored check (suc n) i long
+      (λ (e : i ≡ suc n). rw e check_last)
+      (λ d. held i ∙ sym (check_sized (suc n) i (omega arith) (λ l k. d (omega arith))))
 
-  module _ (check : List ℤ) (long : suc n < length check) where
-    pub check_wider : Holds check (checks (sized t n)) → Holds (set check (suc n) (negative (suc (suc n)))) (checks (sized t (suc n)))
-    check_wider held i = stored check (suc n) i long
-        (λ (e : i ≡ suc n). rw e check_last)
-        (λ d. held i ∙ sym (check_sized i d))
-
-    pub check_narrower : Holds check (checks (sized t (suc n))) → Holds (set check (suc n) (positive 0)) (checks (sized t n))
-    check_narrower held i = stored check (suc n) i long
-        (λ (e : i ≡ suc n). rw e check_beyond)
-        (λ d. held i ∙ check_sized i d)
+  -- With 0 in the cells past n.
+  pub check_narrower : (size : ℕ) (check : List ℤ) → n ≤ size → size < length check → Holds check (checks (sized t size)) →
+      Holds (put_mid (suc n) (size - n) check (replicate (size - n) (positive 0))) (checks (sized t n))
+  check_narrower size check h long held i =
+      let zeros = replicate (size - n) (positive 0) in
+      let some : length zeros ≡ size - n = length-replicate (size - n) (positive 0) in
+      ⊎_elim
+      (λ l. ⊎_elim
+      (λ k. part_past (suc n) (size - n) check zeros i (positive 0) some (omega arith) (omega arith)
+      ∙ held i ∙ check_sized size i h (λ _ o. absurd (omega arith)))
+      (λ k. part_within (suc n) (size - n) check zeros i (positive 0) (omega arith) (omega arith) (omega arith)
+      ∙ get_or-replicate (size - n) (i - suc n) (positive 0) (positive 0) (omega arith)
+      ∙ sym (check_past chained document01 (sized t n) i (past i l) l))
+      (lt_or_ge size i))
+      (λ l. part_before (suc n) (size - n) check zeros i (positive 0) (omega arith) (omega arith)
+      ∙ held i ∙ check_sized size i h (λ k _. absurd (omega arith)))
+      (lt_or_ge n i)
 
   -- ---- the table
 

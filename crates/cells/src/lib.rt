@@ -10,6 +10,7 @@ ghost use Rattle.rules.specs.DeletionAndCompaction.{trimmed};
 ghost use Rattle.placing.specs.Search.{Walks, Precedes};
 ghost use Rattle.cells.specs.Edits.{Shown, SomeTable, EveryTable, sized, holding, claimed, Widens, Shrinks, Claims, Releases};
 
+use numbers::{Minus, Plus, Side};
 use rules::{Cell, Row};
 
 // The unused cell u becomes a child of s, without a base yet. The size grows where u lies past it; cells skipped become free.
@@ -19,9 +20,9 @@ pub fn claim(base: &mut [i32], check: &mut [i32], u: Cell, s: Cell)
 {
     widen(base, check, u.0);
     let p = prior(check, u);
-    let n = numbers::minus_at(check, u.0);
-    numbers::put_minus(check, p.0, n);
-    numbers::put_plus(check, u.0, s.0);
+    let n = numbers::at::<Minus>(check, u.0);
+    numbers::put::<Minus>(check, p.0, n);
+    numbers::put::<Plus>(check, u.0, s.0);
 }
 
 // The used cell u becomes free, and is linked at its ascending place.
@@ -30,10 +31,10 @@ pub fn release(base: &mut [i32], check: &mut [i32], u: Cell)
     ensures { EveryTable (Releases base.old check.old u.0) (λ t. Shown base.new check.new (holding t u.0 free)) }
 {
     let p = prior(check, u);
-    let n = numbers::minus_at(check, p.0);
-    numbers::put_minus(check, p.0, u.0);
-    numbers::put_minus(check, u.0, n);
-    numbers::put_plus(base, u.0, 0);
+    let n = numbers::at::<Minus>(check, p.0);
+    numbers::put::<Minus>(check, p.0, u.0);
+    numbers::put::<Minus>(check, u.0, n);
+    numbers::put::<Plus>(base, u.0, 0);
 }
 
 // The used cell u is a leaf with this row.
@@ -41,7 +42,7 @@ pub fn put_row(base: &mut [i32], u: Cell, row: Row)
     requires { is_row row.0 ≡ true }
     ensures { base.new ≡ set base.old u.0 (negative row.0) }
 {
-    numbers::put_minus(base, u.0, row.0 as usize);
+    numbers::put::<Minus>(base, u.0, row.0 as usize);
 }
 
 // The last cell on the chain below u, or cell 0, the header.
@@ -50,10 +51,10 @@ fn prior(check: &[i32], u: Cell) -> Cell
     ensures { Precedes check.now u.0 result.0 }
 {
     let mut p = 0;
-    let mut n = numbers::minus_at(check, 0);
+    let mut n = numbers::at::<Minus>(check, 0);
     while n < u.0 {
         p = n;
-        n = numbers::known_minus(check, p);
+        n = numbers::known::<Minus>(check, p);
     }
     Cell(p)
 }
@@ -63,15 +64,13 @@ pub fn widen(base: &mut [i32], check: &mut [i32], n: usize)
     requires { SomeTable (Widens base.old check.old n) }
     ensures { EveryTable (Widens base.old check.old n) (λ t. Shown base.new check.new (sized t (max t.size n))) }
 {
-    let mut i = numbers::plus_at(base, 0);
-    if n <= i {
-        return;
+    let size = numbers::at::<Plus>(base, 0);
+    if size < n {
+        for u in size + 1..=n {
+            numbers::put::<Minus>(check, u, u + 1);
+        }
+        numbers::put::<Plus>(base, 0, n);
     }
-    while i < n {
-        i += 1;
-        numbers::put_minus(check, i, i + 1);
-    }
-    numbers::put_plus(base, 0, n);
 }
 
 // The size falls to n; the cells past it become 0. The last link before them already ends the chain.
@@ -79,12 +78,9 @@ pub fn shrink(base: &mut [i32], check: &mut [i32], n: usize)
     requires { SomeTable (Shrinks base.old check.old n) }
     ensures { EveryTable (Shrinks base.old check.old n) (λ t. Shown base.new check.new (sized t n)) }
 {
-    let mut i = numbers::plus_at(base, 0);
-    while n < i {
-        numbers::put_plus(check, i, 0);
-        i -= 1;
-    }
-    numbers::put_plus(base, 0, n);
+    let size = numbers::at::<Plus>(base, 0);
+    check[n + 1..=size].fill(0);
+    numbers::put::<Plus>(base, 0, n);
 }
 
 // The size becomes the largest used cell.
@@ -101,12 +97,7 @@ pub fn largest_used(base: &[i32], check: &[i32]) -> Cell
     requires { SomeTable (Shown base.now check.now) }
     ensures { EveryTable (Shown base.now check.now) (λ t. result.0 ≡ largest_used t.cells t.size) }
 {
-    let mut u = numbers::plus_at(base, 0);
-    while 1 < u {
-        if 0 < numbers::plus_at(check, u) {
-            return Cell(u);
-        }
-        u -= 1;
-    }
-    Cell(1)
+    let size = numbers::at::<Plus>(base, 0);
+    let last = check[..=size].iter().rposition(|x| 0 < Plus::read(*x));
+    Cell(last.unwrap_or(1))
 }

@@ -22,13 +22,13 @@ prior-p-requires c =
     let (t, a) = c.requires in
     shown_walks (c.widen.ensures t (widens a)) _ (omega arith) a.some
 
-pub put_minus-requires : goal.put_minus-requires
-put_minus-requires c =
+pub put-requires : goal.put-requires
+put-requires c =
     let (t, a) = c.requires in
-    omega (arith, link_small (c.widen.ensures t (widens a)) _ (ap not a.unused) (omega arith), c.minus_at-n.ensures.is)
+    omega (arith, link_small (c.widen.ensures t (widens a)) _ (ap not a.unused) (omega arith), c.at-n.ensures.is)
 
-pub put_plus-requires : goal.put_plus-requires
-put_plus-requires c =
+pub put-requires-2 : goal.put-requires-2
+put-requires-2 c =
     let (t, a) = c.requires in
     omega (arith, a.inside, shown_small a.shown)
 
@@ -36,5 +36,5 @@ pub returns : goal.returns
 returns c = λ t a.
     let wide = c.widen.ensures t (widens a) in
     let b = shown_before wide _ (omega arith) c.prior-p.ensures in
-    rw (c.put_plus.ensures, c.put_minus.ensures, c.minus_at-n.ensures.is)
+    rw (c.put-2.ensures, c.put.ensures, c.at-n.ensures.is)
     (take_out wide b (omega arith) a.some a.unused _ a.parent)

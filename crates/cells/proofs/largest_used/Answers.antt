@@ -1,63 +1,68 @@
--- `largest_used` goes down from the size. Assumes nothing.
-use mathlib.Core.Path.{◌≡◌, sym, ◌∙◌}
-use mathlib.Core.Logic.{inl}
-use mathlib.Core.Bool.{true, false}
-use mathlib.Core.List.{List}
-use Prim.Native.Nat.{ℕ, zero, suc, ◌-◌, ◌≤◌, ◌<◌}
-use native.Mathlib.Omega.{arith}
-use lib.IntN.{ℤ}
-use Rattle.numbers.specs.Stored.{plus_at}
-use Rattle.rules.specs.Table.{Cells, used, largest_used}
-use Rattle.tree.proofs.UsedCells.{is_used, parent_used, parentless_unused}
-use Rattle.tree.proofs.LargestUsed.{largest_low, largest_high}
-use Rattle.cells.specs.Edits.{Shown, SomeTable, EveryTable}
-use Rattle.cells.proofs.Shown.{shown_size, shown_parent}
-use Rattle.cells.proofs.largest_used.Invariants.{UpTo}
+-- `largest_used` looks from the size down for a cell that is used. Assumes nothing.
+use Rattle.std.proofs.Common.{◌≡◌, ℕ, ◌+◌, ◌≤◌, ◌<◌, List, length, leb, Option, Some, None, MatchOption, take, get_or-take, length-take-le, sym, ap, ◌∙◌, ⊎_elim, arith, rules}
+use Rattle.std.specs.Option.{unwrap_or}
+use lib.IntN.{ℤ, pos}
+use borrow.Author.Tests.{le-leb, lt-leb}
+use mathlib.Core.Bool.{true≢false}
+use native.Mathlib.Nat.{le_antisymm}
+use Rattle.numbers.specs.Stored.{plus_of, plus_at}
+use Rattle.numbers.proofs.Cases.{lt_or_ge}
+use Rattle.rules.specs.Table.{Table, used, largest_used}
+use Rattle.tree.proofs.LargestUsed.{largest_low, largest_high, largest_used_lem}
+use Rattle.placing.proofs.TakenCells.{taken_within}
+use Rattle.cells.specs.Edits.{Shown}
+use Rattle.cells.proofs.Shown.{shown_size, shown_long, shown_lengths, shown_taken}
 use Rattle.cells.proofs.largest_used.Goals as goal
 
-largest_here : (T : Cells) (u : ℕ) → 1 ≤ u → used T u ≡ true → u ≡ largest_used T u
-largest_here T u h e = omega (arith, largest_low T u h, largest_high T u u e (omega arith))
+-- Which is the last of some elements that are above 0, if there is one.
+abbrev LastAbove : List ℤ → Option ℕ → Type 0
+LastAbove xs r = MatchOption r
+    ((k : ℕ) → k < length xs → plus_at xs k < 1)
+    (λ u. (u < length xs) × (1 ≤ plus_at xs u) × ((k : ℕ) → u < k → k < length xs → plus_at xs k < 1))
 
-largest_on : (T : Cells) (u : ℕ) → used T (suc u) ≡ false → largest_used T u ≡ largest_used T (suc u)
-unfolding largest_used
-largest_on T u e = rw e
+module _ {base check : List ℤ} {t : Table} (s : Shown base check t) where
+  inside : t.size < length check
+  inside = omega (arith, shown_long s, shown_lengths s)
 
-starts : (base check : List ℤ) (u : ℕ) → SomeTable (Shown base check) → u ≡ plus_at base 0 → UpTo base check u
-starts base check u (t₀, s₀) e = record {
-  some = omega (arith, shown_size s₀, s₀.table.some);
-  same = λ t s. rw (e ∙ shown_size s);
-}
+  -- The elements up to the size.
+  abbrev front : List ℤ
+  front = take (t.size + 1) check
 
-goes_on : (base check : List ℤ) (u : ℕ) → 1 < u → plus_at check u ≡ 0 → UpTo base check u → UpTo base check (u - 1)
-goes_on base check zero h z w = absurd (omega arith)
-goes_on base check (suc u) h z w = let q : suc u - 1 ≡ u = omega arith in rw q (record {
-  some = omega arith;
-  same = λ t s. let p = shown_parent s (suc u) (λ e. omega arith) in
-      largest_on t.cells u (parentless_unused t.cells (suc u) (λ e. omega arith) (sym p ∙ z)) ∙ w.same t s;
-})
+  front_long : length front ≡ t.size + 1
+  front_long = length-take-le (t.size + 1) check (omega (arith, inside))
 
-module _ {base check : List ℤ} {u : ℕ} (w : UpTo base check u) where
-  found : 1 < u → 0 < plus_at check u → EveryTable (Shown base check) (λ t. u ≡ largest_used t.cells t.size)
-  found h p t s =
-      let e = parent_used t.cells u (omega (arith, shown_parent s u (λ e. omega arith))) in
-      largest_here t.cells u w.some e ∙ w.same t s
+  -- They tell whether a cell is used.
+  tells : (u : ℕ) → u ≤ t.size → leb 1 (plus_at front u) ≡ used t.cells u
+  tells u h =
+      ap (λ (z : ℤ). leb 1 (plus_of z)) (get_or-take (t.size + 1) check u (pos 0) (omega arith))
+      ∙ sym (taken_within check t.size u h) ∙ shown_taken s u
 
-  -- The root is used in any case.
-  at_root : u ≤ 1 → EveryTable (Shown base check) (λ t. 1 ≡ largest_used t.cells t.size)
-  at_root h t s =
-      let e : u ≡ 1 = omega (arith, w.some) in
-      sym e ∙ largest_here t.cells u w.some (is_used t.cells u (inl e)) ∙ w.same t s
+  abbrev m : ℕ
+  m = largest_used t.cells t.size
 
-pub loop-u-init : goal.loop-u-init
-loop-u-init c = starts _ _ _ c.requires c.plus_at-u.ensures.is
+  m_inside : m ≤ t.size
+  m_inside = largest_low t.cells t.size s.table.some
 
-pub returns-then-plus_at-gt0 : goal.returns-then-plus_at-gt0
-returns-then-plus_at-gt0 c = found c.loop-u.invariant (omega arith) (omega (arith, c.plus_at.ensures.is))
+  m_above : plus_at front m < 1 → ⊥
+  m_above l = true≢false (sym (largest_used_lem t.cells t.size) ∙ sym (tells m m_inside) ∙ lt-leb 1 (plus_at front m) l)
 
-pub loop-u-preserved : goal.loop-u-preserved
-loop-u-preserved c =
-    let l = c.loop-u in
-    goes_on _ _ l.u (omega arith) (omega (arith, c.plus_at.ensures.is)) l.invariant
+  largest_is : (r : Option ℕ) → LastAbove front r → unwrap_or r 1 ≡ m
+  largest_is None h = absurd (m_above (h m (omega (arith, front_long, m_inside))))
+  largest_is (Some u) h =
+      let l : u ≤ t.size = omega (arith, front_long, h.0) in
+      le_antisymm
+      (largest_high t.cells t.size u (sym (tells u l) ∙ le-leb 1 (plus_at front u) h.1) l)
+      (⊎_elim (λ k. absurd (m_above (h.2 m k (omega (arith, front_long, m_inside))))) (λ k. k) (lt_or_ge u m))
+
+pub slice_bounds-iter-end : goal.slice_bounds-iter-end
+slice_bounds-iter-end c =
+    let (t, s) = c.requires in
+    let l : c.at-size.result < length c.args.check.now = omega (arith, c.at-size.ensures.is, shown_size s, inside s) in
+    search rules
 
 pub returns : goal.returns
-returns c = at_root c.loop-u.invariant (omega arith)
+returns c t s =
+    let n = c.at-size.result in
+    let h : LastAbove (take (n + 1) c.args.check.now) c.rposition-last.result = search rules in
+    let e : n ≡ t.size = c.at-size.ensures.is ∙ shown_size s in
+    c.unwrap_or.ensures ∙ largest_is s c.rposition-last.result (rw e at h)

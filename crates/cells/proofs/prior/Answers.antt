@@ -20,10 +20,10 @@ module _ {check : List ℤ} {u p n : ℕ} (w : Underway check u p n) (l : n < u)
   named_farther = (chain.link n (omega arith) named_on).after
 
 pub loop-n-init : goal.loop-n-init
-loop-n-init c = record { below = c.requires.some; on = λ m size chain h. chain.header; names = c.minus_at-n.ensures.is }
+loop-n-init c = record { below = c.requires.some; on = λ m size chain h. chain.header; names = c.at-n.ensures.is }
 
-pub known_minus-n-requires : goal.known_minus-n-requires
-known_minus-n-requires c =
+pub known-n-requires : goal.known-n-requires
+known-n-requires c =
     let l = c.loop-n in
     let w = c.requires in
     omega (arith, named_farther l.invariant (omega arith) w.chain w.within)
@@ -32,12 +32,12 @@ pub loop-n-smaller : goal.loop-n-smaller
 loop-n-smaller c =
     let l = c.loop-n in
     let w = c.requires in
-    omega (arith, named_farther l.invariant (omega arith) w.chain w.within, c.known_minus-n.ensures.is)
+    omega (arith, named_farther l.invariant (omega arith) w.chain w.within, c.known-n.ensures.is)
 
 pub loop-n-preserved : goal.loop-n-preserved
 loop-n-preserved c =
     let l = c.loop-n in
-    record { below = omega arith; on = λ m size. named_on l.invariant (omega arith); names = c.known_minus-n.ensures.is }
+    record { below = omega arith; on = λ m size. named_on l.invariant (omega arith); names = c.known-n.ensures.is }
 
 pub returns : goal.returns
 returns c =

@@ -4,6 +4,6 @@ use Rattle.rules.specs.WhatTheIndexDoes.{is_row}
 use Rattle.rules.proofs.Ranges.{within_is}
 use Rattle.cells.proofs.put_row.Goals as goal
 
-pub put_minus-requires : goal.put_minus-requires
+pub put-requires : goal.put-requires
 unfolding is_row
-put_minus-requires c = omega (arith, within_is 1 1000000 c.args.row.0 c.requires)
+put-requires c = omega (arith, within_is 1 1000000 c.args.row.0 c.requires)

@@ -21,18 +21,18 @@ module _ {base check : List ℤ} {u : ℕ} {t : Table} (a : Releases base check 
 pub prior-p-requires : goal.prior-p-requires
 prior-p-requires c = let (t, a) = c.requires in shown_walks a.shown _ (inside a) (omega (arith, a.far))
 
-pub put_minus-requires : goal.put_minus-requires
-put_minus-requires c =
+pub put-requires : goal.put-requires
+put-requires c =
     let (t, a) = c.requires in
     omega (arith, inside a, shown_small a.shown)
 
-pub put_minus-requires-2 : goal.put_minus-requires-2
-put_minus-requires-2 c =
+pub put-requires-2 : goal.put-requires-2
+put-requires-2 c =
     let (t, a) = c.requires in
     let b = before a c.prior-p.ensures in
-    omega (arith, link_small a.shown _ b.on (omega (arith, inside a, b.below)), c.minus_at-n.ensures.is)
+    omega (arith, link_small a.shown _ b.on (omega (arith, inside a, b.below)), c.at-n.ensures.is)
 
 pub returns : goal.returns
 returns c = λ t a.
-    rw (c.put_plus.ensures, c.put_minus-2.ensures, c.put_minus.ensures, c.minus_at-n.ensures.is)
+    rw (c.put-3.ensures, c.put-2.ensures, c.put.ensures, c.at-n.ensures.is)
     (put_in a.shown (before a c.prior-p.ensures) (inside a) a.far a.parent)

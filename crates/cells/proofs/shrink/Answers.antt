@@ -1,52 +1,57 @@
--- `shrink` writes 0 into each cell that it passes. Assumes nothing.
-use mathlib.Core.Path.{◌≡◌, refl, ◌∙◌}
-use mathlib.Core.List.{List}
-use Prim.Native.Nat.{ℕ, zero, suc, ◌-◌, ◌≤◌, ◌<◌}
-use native.Mathlib.Omega.{arith}
-use lib.ListN.{set, length-set}
+-- `shrink` writes 0 into the cells past n. Assumes nothing.
+use Rattle.std.proofs.Common.{◌≡◌, ℕ, set, ◌+◌, ◌-◌, ◌≤◌, ◌<◌, List, length, take, drop, replicate, length-take-le, length-drop, add-one, ap, ◌∙◌, arith, rules}
+use Rattle.std.proofs.lemmas.List.{places, length-replicate}
 use lib.IntN.{ℤ}
+use borrow.Rule.Slice.PartMut.{put_mid}
 use Rattle.numbers.specs.Stored.{positive, plus_at}
-use Rattle.cells.specs.Edits.{Shown, SomeTable, EveryTable, sized, Shrinks}
+use Rattle.rules.specs.Table.{Table}
+use Rattle.cells.specs.Edits.{Shown, sized, Shrinks}
 use Rattle.cells.proofs.Shown.{shown_size, shown_lengths, shown_long, shown_small, check_element}
 use Rattle.cells.proofs.Resizing.{check_narrower, show_sized}
-use Rattle.cells.proofs.shrink.Invariants.{Shrinking}
 use Rattle.cells.proofs.shrink.Goals as goal
 
-starts : (base check : List ℤ) (n i : ℕ) → i ≡ plus_at base 0 → SomeTable (Shrinks base check n) → Shrinking base check n check i
-starts base check n i e (t₀, w) =
-    let z = shown_size w.shown in
-    record {
-      same = refl;
-      least = omega (arith, w.less);
-      fits = (omega (arith, shown_long w.shown, shown_lengths w.shown), omega (arith, w.less, shown_small w.shown));
-      held = λ t a. rw (e ∙ shown_size a.shown) (check_element a.shown);
-    }
+module _ {base check : List ℤ} {n size : ℕ} {t : Table} (a : Shrinks base check n t) (e : size ≡ plus_at base 0) where
+  size_is : size ≡ t.size
+  size_is = e ∙ shown_size a.shown
 
-goes_on : (base check₀ check check' : List ℤ) (n i : ℕ) → Shrinking base check₀ n check i → n < i → check' ≡ set check i (positive 0) →
-    Shrinking base check₀ n check' (i - 1)
-goes_on base check₀ check check' n zero w l e = absurd (omega arith)
-goes_on base check₀ check check' n (suc i) w l e = let q : suc i - 1 ≡ i = omega arith in rw (q, e) (record {
-  same = length-set check (suc i) (positive 0) ∙ w.same;
-  least = omega arith;
-  fits = (omega (arith, w.fits), w.fits.1);
-  held = λ t a. check_narrower t i (λ u k. a.past u (omega arith)) check (omega (arith, w.fits, w.same)) (w.held t a);
-})
+  inside : size < length check
+  inside = omega (arith, size_is, shown_long a.shown, shown_lengths a.shown)
 
-ends : {base check₀ check : List ℤ} {n i : ℕ} → Shrinking base check₀ n check i → (base' : List ℤ) → i ≤ n → base' ≡ set base 0 (positive n) →
-    EveryTable (Shrinks base check₀ n) (λ t. Shown base' check (sized t n))
-ends {n = n} {i} w base' l e t a =
-    let d : i ≡ n = omega (arith, w.least) in
-    rw e (show_sized t n a.past a.shown a.some (omega (arith, a.less, a.shown.fits)) w.same (rw d at (w.held t a)))
+  below : n ≤ size
+  below = omega (arith, size_is, a.less)
 
-pub loop-i-init : goal.loop-i-init
-loop-i-init c = starts _ _ _ _ c.plus_at-i.ensures.is c.requires
+  part_long : length (take (size + 1 - (n + 1)) (drop (n + 1) check)) ≡ size - n
+  part_long = omega (arith, length-take-le (size + 1 - (n + 1)) (drop (n + 1) check) (omega (arith, length-drop (n + 1) check, inside)))
 
-pub loop-i-preserved : goal.loop-i-preserved
-loop-i-preserved c =
-    let l = c.loop-i in
-    goes_on _ _ _ c.put_plus.new.s _ l.i l.invariant (omega arith) c.put_plus.ensures
+  ends : (part : List ℤ) → part ≡ replicate (length (take (size + 1 - (n + 1)) (drop (n + 1) check))) (positive 0) →
+      Shown (set base 0 (positive n)) (put_mid (n + 1) (size + 1 - (n + 1)) check part) (sized t n)
+  ends part p =
+      let d : size + 1 - (n + 1) ≡ size - n = omega arith in
+      let long : length part ≡ size - n = ap length p ∙ length-replicate _ (positive 0) ∙ part_long in
+      let l : n + 1 ≤ length check = omega (arith, below, inside) in
+      let m : size < length check = inside in
+      show_sized t n a.past a.shown a.some (omega (arith, a.less, a.shown.fits)) (search (rules, places))
+      (rw (d, p, part_long, add-one) (check_narrower t n a.past size check below inside (rw size_is (check_element a.shown))))
+
+pub slice_bounds-fill-count : goal.slice_bounds-fill-count
+slice_bounds-fill-count c = let (t, a) = c.requires in omega (arith, below a c.at-size.ensures.is)
+
+pub slice_bounds-fill-start : goal.slice_bounds-fill-start
+slice_bounds-fill-start c =
+    let (t, a) = c.requires in
+    let l = below a c.at-size.ensures.is in
+    let m = inside a c.at-size.ensures.is in
+    search rules
+
+pub slice_bounds-fill-end : goal.slice_bounds-fill-end
+slice_bounds-fill-end c =
+    let (t, a) = c.requires in
+    let l = below a c.at-size.ensures.is in
+    let m = inside a c.at-size.ensures.is in
+    search rules
+
+pub put-requires : goal.put-requires
+put-requires c = let (t, a) = c.requires in omega (arith, a.less, shown_small a.shown)
 
 pub returns : goal.returns
-returns c =
-    let l = c.loop-i in
-    ends l.invariant c.put_plus-2.new.s (omega arith) c.put_plus-2.ensures
+returns c t a = rw c.put.ensures (ends a c.at-size.ensures.is c.fill.new.self (c.fill.ensures.after (λ y e. e)))
