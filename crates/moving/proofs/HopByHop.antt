@@ -2,11 +2,11 @@
 -- Assumes nothing.
 use mathlib.Core.Path.{◌≡◌, refl, sym, ap, ◌∙◌}
 use mathlib.Core.Logic.{⊎_elim}
-use mathlib.Core.List.{List}
-use Prim.Native.Nat.{ℕ, suc, ◌+◌, ◌≤◌, ◌<◌}
+use mathlib.Core.List.{List, ◌∷◌, ◌++◌}
+use Prim.Native.Nat.{ℕ, suc, ◌+◌, ◌≤◌}
 use native.Mathlib.Omega.{arith}
-use lib.ListN.{length, get_or, set, drop}
-use lib.Seq.{drop-cons}
+use lib.ListN.{length, set, drop}
+use lib.Seq.{drop_at}
 use lib.IntN.{ℤ}
 use borrow.Author.Tests.{eq-eqb, ne_eqb}
 use Rattle.numbers.specs.Stored.{positive, plus_at}
@@ -101,28 +101,23 @@ module _ {base₀ check₀ : List ℤ} {s q : ℕ} {codes : List ℕ} {t : Table
         let (k, p, r, a) = b in
         rw (p, r) (child_hops k (rw p at is_child) (rw r at sh) (rw p at (h.inside c (rw h.codes_are a))))
 
-  -- The code at j is the next.
-  module _ (j : ℕ) (l : j < length codes) where
-    abbrev c : ℕ
-    c = get_or codes j 0
-
-    behind : Behind T s c (drop (suc j) codes) (child_codes T s GREATEST)
-    behind = codes_behind T s GREATEST j (rw (← h.codes_are) (drop-cons codes j 0 l))
+  -- Where the codes are some on the left, c and those of the children that have gone, c is the next.
+  module _ (left : List ℕ) (c : ℕ) (gone : List ℕ) (e : left ++ c ∷ gone ≡ codes) where
+    behind : Behind T s c gone (child_codes T s GREATEST)
+    behind = codes_behind T s GREATEST (length left)
+        (ap (drop (length left)) (sym (e ∙ h.codes_are)) ∙ drop_at left (c ∷ gone) (length left) refl)
 
     pub code_small : c ≤ GREATEST
     code_small = (codes_lead T s GREATEST c behind.3).1
 
-    hops_drop : After (drop j codes) ≡ hop (After (drop (suc j) codes)) ((T s).base + c) (q + c)
-    unfolding hops
-    hops_drop = ap After (drop-cons codes j 0 l)
+    -- b is what base has for s.
+    module _ {b : ℕ} (is : b ≡ plus_at base₀ s) {base check : List ℤ} where
+      pub hop_asks : Shown base check (Hopped gone) → Hops base check (b + c) (q + c) (Hopped gone)
+      hop_asks sh = rw (is ∙ own_read) (code_hops behind sh)
 
-    -- b is what base has for s, and i comes after j.
-    module _ {b i : ℕ} (is : b ≡ plus_at base₀ s) (e : i ≡ suc j) {base check : List ℤ} where
-      pub hop_asks : Shown base check (Hopped (drop i codes)) → Hops base check (b + c) (q + c) (Hopped (drop i codes))
-      hop_asks sh = rw (is ∙ own_read, e) (code_hops behind (rw e at sh))
-
-      pub hop_leaves : Shown base check (celled t (hop (After (drop i codes)) (b + c) (q + c))) → Shown base check (Hopped (drop j codes))
-      hop_leaves sh = rw hops_drop (rw (is ∙ own_read, e) at sh)
+      pub hop_leaves : Shown base check (celled t (hop (After gone) (b + c) (q + c))) → Shown base check (Hopped (c ∷ gone))
+      unfolding hops
+      hop_leaves sh = rw (is ∙ own_read) at sh
 
   -- ---- the end
 

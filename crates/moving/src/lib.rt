@@ -7,6 +7,7 @@ ghost use Rattle.tree.specs.MovingInTurn.{hop};
 ghost use Rattle.cells.specs.Edits.{Shown, SomeTable, EveryTable, celled};
 ghost use Rattle.moving.specs.Children.{handed, Hands, Hops, Relocates, Collects, Collected};
 
+use numbers::Plus;
 use rules::{Alphabet, Cell};
 
 // Writes the code c and behind it the codes of the children of s, the greatest first. Gives their number, c included.
@@ -14,16 +15,14 @@ pub fn collect(base: &[i32], check: &[i32], s: Cell, c: usize, codes: &mut [usiz
     requires { SomeTable (Collects base.now check.now s.0 codes.old) }
     ensures { EveryTable (Collects base.now check.now s.0 codes.old) (λ t. Collected t.cells s.0 c codes.new result) }
 {
-    let b = numbers::plus_at(base, s.0);
+    let b = numbers::at::<Plus>(base, s.0);
     codes[0] = c;
     let mut n = 1;
-    let mut k = Alphabet::GREATEST;
-    while 0 < k {
+    for k in (1..=Alphabet::GREATEST).rev() {
         if numbers::is_at(check, b + k, s.0) {
             codes[n] = k;
             n += 1;
         }
-        k -= 1;
     }
     n
 }
@@ -33,13 +32,11 @@ pub fn relocate(base: &mut [i32], check: &mut [i32], s: Cell, q: usize, codes: &
     requires { SomeTable (Relocates base.old check.old s.0 q codes.now) }
     ensures { EveryTable (Relocates base.old check.old s.0 q codes.now) (λ t. Shown base.new check.new (celled t (relocate t.cells s.0 q))) }
 {
-    let b = numbers::plus_at(base, s.0);
-    let mut i = codes.len();
-    while 0 < i {
-        i -= 1;
-        hop(base, check, Cell(b + codes[i]), Cell(q + codes[i]));
+    let b = numbers::at::<Plus>(base, s.0);
+    for code in codes.iter().rev() {
+        hop(base, check, Cell(b + *code), Cell(q + *code));
     }
-    numbers::put_plus(base, s.0, q);
+    numbers::put::<Plus>(base, s.0, q);
 }
 
 // What the cell old holds goes to the unused cell new; its own children's check is set to new, and old becomes free.
@@ -47,12 +44,9 @@ fn hop(base: &mut [i32], check: &mut [i32], old: Cell, new: Cell)
     requires { SomeTable (Hops base.old check.old old.0 new.0) }
     ensures { EveryTable (Hops base.old check.old old.0 new.0) (λ t. Shown base.new check.new (celled t (hop t.cells old.0 new.0))) }
 {
-    let s = numbers::plus_at(check, old.0);
+    let s = numbers::at::<Plus>(check, old.0);
     cells::claim(base, check, new, Cell(s));
-    let from = old.0;
-    let to = new.0;
-    let held = base[from];
-    base[to] = held;
+    base[new.0] = base[old.0];
     hand(base, check, old, new);
     cells::release(base, check, old);
 }
@@ -62,15 +56,13 @@ fn hand(base: &[i32], check: &mut [i32], old: Cell, new: Cell)
     requires { SomeTable (Hands base.now check.old old.0 new.0) }
     ensures { EveryTable (Hands base.now check.old old.0 new.0) (λ t. Shown base.now check.new (celled t (handed t.cells old.0 new.0))) }
 {
-    let b = numbers::plus_at(base, old.0);
+    let b = numbers::at::<Plus>(base, old.0);
     if b == 0 {
         return;
     }
-    let mut k = 0;
-    while k < Alphabet::GREATEST {
-        k += 1;
+    for k in 1..=Alphabet::GREATEST {
         if numbers::is_at(check, b + k, old.0) {
-            numbers::put_plus(check, b + k, new.0);
+            numbers::put::<Plus>(check, b + k, new.0);
         }
     }
 }

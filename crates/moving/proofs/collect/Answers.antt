@@ -61,22 +61,10 @@ loop-k-init c =
       all = rw (take-suc-set c.args.codes.now 0 c.args.c (omega (arith, h.room)));
     }
 
-pub overflow_add-b : goal.overflow_add-b
-overflow_add-b c = omega (arith, c.plus_at-b.ensures.small, c.loop-k.invariant.few)
-
 pub is_at-requires : goal.is_at-requires
 is_at-requires c =
     let (t, h) = c.requires in
     (h.some, omega (arith, h.inside, shown_small h.shown))
-
-pub offset_bounds-codes-n : goal.offset_bounds-codes-n
-offset_bounds-codes-n c = omega (arith, c.loop-k.invariant.few)
-
-pub bounds-codes-n : goal.bounds-codes-n
-bounds-codes-n c = let u = c.loop-k.invariant in omega (arith, u.long, u.few)
-
-pub overflow_add-n : goal.overflow_add-n
-overflow_add-n c = omega (arith, c.loop-k.invariant.few)
 
 pub loop-k-preserved : goal.loop-k-preserved
 loop-k-preserved c =
@@ -88,4 +76,4 @@ loop-k-preserved c =
     ]
 
 pub returns : goal.returns
-returns c t h = ends c.loop-k.invariant h c.plus_at-b.ensures.is c.loop-k-test.false
+returns c t h = ends c.loop-k.invariant h c.at-b.ensures.is (omega arith)

@@ -40,6 +40,3 @@ pub record Underway (check : List ℤ) (b s c : ℕ) (codes : List ℕ) (n k : �
 
 abbrev pub invariant-loop-k : goal.invariant-loop-k
 invariant-loop-k l = Underway l.check l.b l.s.0 l.c l.codes l.n l.k
-
-abbrev pub decreases-loop-k : goal.decreases-loop-k
-decreases-loop-k l = l.k

@@ -2,7 +2,7 @@
 use mathlib.Core.Path.{◌≡◌, sym, ◌∙◌}
 use mathlib.Core.Bool.{true, false}
 use mathlib.Core.List.{List}
-use Prim.Native.Nat.{ℕ, suc, ◌+◌, ◌<◌}
+use Prim.Native.Nat.{ℕ, suc, ◌+◌, ◌-◌, ◌≤◌}
 use native.Mathlib.Nat.{add-zero}
 use native.Mathlib.Omega.{arith}
 use lib.ListN.{set}
@@ -12,63 +12,67 @@ use Rattle.numbers.specs.Stored.{positive, plus_at}
 use Rattle.rules.specs.WhatTheIndexDoes.{GREATEST}
 use Rattle.cells.proofs.Shown.{shown_small}
 use Rattle.moving.proofs.hand.Invariants.{inside, none, starts, ends, hand_passes, hand_stores, Underway}
+use Rattle.moving.proofs.hand.Goals.{then-is_at, else-is_at}
 use Rattle.moving.proofs.hand.Goals as goal
 
-module _ {base check₀ check : List ℤ} {old new b k : ℕ} (u : Underway base check₀ check old new b k) (l : k < GREATEST) where
-  ahead : b + (k + 1) ≡ suc (b + k)
+-- The cell b + k is the next.
+module _ {base check₀ check : List ℤ} {old new b i k : ℕ} (u : Underway base check₀ check old new b i) (next : k ≡ suc i) (l : k ≤ GREATEST) where
+  ahead : b + k ≡ suc (b + i)
   ahead = omega arith
 
-  stores : eqb (plus_at check (b + (k + 1))) old ≡ true → Underway base check₀ (set check (b + (k + 1)) (positive new)) old new b (k + 1)
+  stores : eqb (plus_at check (b + k)) old ≡ true → Underway base check₀ (set check (b + k) (positive new)) old new b k
   stores e = record {
     some = u.some;
-    few = omega arith;
-    shows = λ t h. rw ahead (hand_stores h (b + k) (omega (arith, u.some)) (u.shows t h) (rw ahead at e));
+    few = l;
+    shows = λ t h. rw ahead (hand_stores h (b + i) (omega (arith, u.some)) (u.shows t h) (rw ahead at e));
   }
 
-  passes : eqb (plus_at check (b + (k + 1))) old ≡ false → Underway base check₀ check old new b (k + 1)
+  passes : eqb (plus_at check (b + k)) old ≡ false → Underway base check₀ check old new b k
   passes e = record {
     some = u.some;
-    few = omega arith;
-    shows = λ t h. rw ahead (hand_passes h (b + k) (omega (arith, u.some)) (u.shows t h) (rw ahead at e));
+    few = l;
+    shows = λ t h. rw ahead (hand_passes h (b + i) (omega (arith, u.some)) (u.shows t h) (rw ahead at e));
   }
 
 pub returns-then-b-eq0 : goal.returns-then-b-eq0
-returns-then-b-eq0 c t h = none h c.plus_at-b.ensures.is c.if-b-eq0.true
+returns-then-b-eq0 c t h = none h c.at-b.ensures.is c.if-b-eq0.true
 
 pub loop-k-init : goal.loop-k-init
 loop-k-init c = record {
   some = omega (arith, c.if-b-eq0.false);
   few = omega arith;
-  shows = λ t h. rw add-zero (starts h c.plus_at-b.ensures.is);
+  shows = λ t h. rw add-zero (starts h c.at-b.ensures.is);
 }
 
 pub overflow_add-b : goal.overflow_add-b
-overflow_add-b c = omega (arith, c.plus_at-b.ensures.small)
+overflow_add-b c = omega (arith, c.at-b.ensures.small)
 
 pub is_at-requires : goal.is_at-requires
 is_at-requires c =
     let (t, h) = c.requires in
-    let l = inside h c.plus_at-b.ensures.is c.loop-k.invariant.some in
+    let l = inside h c.at-b.ensures.is c.loop-k.invariant.some in
     (omega (arith, h.far), omega (arith, l, shown_small h.shown))
 
 pub overflow_add-b-then-is_at : goal.overflow_add-b-then-is_at
-overflow_add-b-then-is_at c = omega (arith, c.plus_at-b.ensures.small)
+overflow_add-b-then-is_at c = omega (arith, c.at-b.ensures.small)
 
-pub put_plus-requires : goal.put_plus-requires
-put_plus-requires c =
+pub put-requires : goal.put-requires
+put-requires c =
     let (t, h) = c.requires in
     omega (arith, h.inside, shown_small h.shown)
 
-pub loop-k-preserved-then-is_at : goal.loop-k-preserved-then-is_at
-loop-k-preserved-then-is_at c =
-    let u = c.loop-k.invariant in
-    rw c.put_plus.ensures (stores u (omega arith) (sym c.is_at.ensures ∙ c.if-is_at.true))
-
 pub loop-k-preserved : goal.loop-k-preserved
-loop-k-preserved c = passes c.loop-k.invariant (omega arith) (sym c.is_at.ensures ∙ c.if-is_at.false)
+loop-k-preserved c =
+    let l = c.loop-k in
+    let is = sym c.is_at.ensures in
+    let e : l.k + 1 - 1 ≡ l.k = omega arith in
+    rw e (elim c.if-is_at.branch [
+      | then-is_at w ↦ rw (w.check-is, w.put.ensures) (stores l.invariant (omega arith) (omega arith) (is ∙ w.if-is_at.true))
+      | else-is_at w ↦ rw w.check-is (passes l.invariant (omega arith) (omega arith) (is ∙ w.if-is_at.false))
+    ])
 
 pub returns : goal.returns
 returns c t h =
     let l = c.loop-k in
-    let e : l.k ≡ GREATEST = omega (arith, l.invariant.few) in
-    ends h c.plus_at-b.ensures.is (rw e at (l.invariant.shows t h))
+    let e : l.k - 1 ≡ GREATEST = omega (arith, l.invariant.few) in
+    ends h c.at-b.ensures.is (rw e at (l.invariant.shows t h))

@@ -65,7 +65,4 @@ pub record Underway (base check₀ check : List ℤ) (old new b k : ℕ) : Type 
   pub shows : (t : Table) (h : Hands base check₀ old new t) → Shown base check (To h (b + k))
 
 abbrev pub invariant-loop-k : goal.invariant-loop-k
-invariant-loop-k l = Underway l.base l.initial.check l.check l.old.0 l.new.0 l.b l.k
-
-abbrev pub decreases-loop-k : goal.decreases-loop-k
-decreases-loop-k l = GREATEST - l.k
+invariant-loop-k l = Underway l.base l.initial.check l.check l.old.0 l.new.0 l.b (l.k - 1)
