@@ -54,7 +54,7 @@ module _ (base check : List ℤ) where
   -- ---- writing
 
   pub root_visits : sound document01 base check ≡ true → {out : List ℕ} → leb (length bytes) (length out) ≡ true →
-      Visits base check 1 DEEPEST [] out 0
+      Visits base check 1 DEEPEST [] out
   unfolding listing entries
   root_visits whole {out = out} h = record {
     whole = whole;
@@ -66,7 +66,7 @@ module _ (base check : List ℤ) where
   unfolding sound_list
   list_no_space h = rw h (record { answer = refl; out_is = refl })
 
-  pub list_done : {out out' : List ℕ} {r : ℕ} → leb (length bytes) (length out) ≡ true → Lists (lines_below base check 1 DEEPEST []) out out' 0 r →
+  pub list_done : {out out' : List ℕ} {r : ℕ} → leb (length bytes) (length out) ≡ true → Lists (lines_below base check 1 DEEPEST []) out out' r →
       Writes (sound_list document01 base check out) (counted r) out'
   unfolding sound_list listing entries
   list_done h w = rw h (record { answer = ap counted (omega (arith, w.end)); out_is = w.out_is })

@@ -11,7 +11,7 @@ abbrev pub decreases-visit : goal.decreases-visit
 decreases-visit l = l.depth * 40
 
 abbrev pub invariant-visit-loop-left : goal.invariant-visit-loop-left
-invariant-visit-loop-left l = Trying l.arrays.base.now l.arrays.check.now l.s.0 (l.depth - 1) l.initial.key l.initial.out l.at l.key l.out l.end l.labels
+invariant-visit-loop-left l = Trying l.arrays.base.now l.arrays.check.now l.s.0 (l.depth - 1) l.initial.key l.initial.out l.key l.out l.written l.labels
 
 abbrev pub decreases-visit-loop-left : goal.decreases-visit-loop-left
 decreases-visit-loop-left l = l.labels
