@@ -1,15 +1,16 @@
 -- A sheet has a line for each line feed, and one more where the last has none. Assumes nothing.
-use mathlib.Core.Path.{◌≡◌, refl, sym, ap, ◌∙◌}
+use mathlib.Core.Path.{◌≡◌, refl, ap, ◌∙◌}
 use mathlib.Core.Logic.{◌≢◌, ⊎_elim}
 use mathlib.Core.Bool.{Bool, true, false, cond, not}
 use mathlib.Core.List.{List, [], ◌∷◌, ◌++◌}
 use Prim.Native.Nat.{ℕ, suc, ◌+◌, ◌-◌, ◌≤◌, ◌<◌, min}
 use native.Mathlib.Numerals.{add-one}
 use native.Mathlib.Omega.{arith}
-use lib.ListN.{length, get_or, take, drop, length-drop, take-append-drop, drop_of_length-le}
-use lib.Seq.{drop-cons, take_all, drop-length}
+use lib.ListN.{length, get_or, drop, drop_of_length-le}
+use lib.Seq.{drop-cons, drop-length}
 use lib.Dec.{eqb}
 use borrow.Author.Tests.{eq-eqb, ne_eqb, lt-ltb}
+use Rattle.std.specs.Int.{from_bool}
 use Rattle.numbers.proofs.Cases.{lt_or_ge}
 use Rattle.rules.specs.Listing.{LF}
 use Rattle.rules.specs.ARun.{joined, sheet_lines}
@@ -29,11 +30,9 @@ unfolding feeds_in
 feeds_few [] = omega arith
 feeds_few (b ∷ bs) = branch (λ n. n ≤ suc (length bs)) (eqb b LF) (λ _. omega (arith, feeds_few bs)) (λ _. omega (arith, feeds_few bs))
 
--- The first n bytes, and the others.
-pub feeds_parts : (s : List ℕ) (n : ℕ) → feeds_in s ≡ feeds_in (take n s) + feeds_in (take (length s - n) (drop n s))
-feeds_parts s n =
-    let all : take (length s - n) (drop n s) ≡ drop n s = take_all (length s - n) (drop n s) (rw length-drop (omega arith)) in
-    rw all (ap feeds_in (sym (take-append-drop n s)) ∙ feeds_append (take n s) (drop n s))
+-- The next bytes, and those behind.
+pub counted_on : (s block rest : List ℕ) → s ≡ block ++ rest → feeds_in s ≡ feeds_in block + feeds_in rest
+counted_on s block rest e = ap feeds_in e ∙ feeds_append block rest
 
 module _ (part : List ℕ) (i : ℕ) (h : i < length part) where
   pub feed_here : get_or part i 0 ≡ LF → feeds_in (drop i part) ≡ 1 + feeds_in (drop (i + 1) part)
@@ -55,10 +54,6 @@ unfolding joined
 joined_same b [] h = absurd (omega arith)
 joined_same b (l ∷ ls) h = refl
 
--- One more where the last line has no line feed.
-abbrev pub more : Bool → ℕ
-more t = cond t 1 0
-
 -- The last byte is that of what follows a first byte, if anything does.
 last_same : (b c : ℕ) (bs : List ℕ) → is_unfinished (b ∷ c ∷ bs) ≡ is_unfinished (c ∷ bs)
 unfolding is_unfinished
@@ -72,25 +67,29 @@ unfolding sheet_lines feeds_in
 lines_more b s n h e = branch₂ (λ (ls : List (List ℕ)) (m : ℕ). length ls ≡ m + n) (eqb b LF)
     (λ _. omega arith) (λ _. joined_same b (sheet_lines s) (lines_some s h) ∙ e)
 
-lines_one : (b : ℕ) → length (sheet_lines (b ∷ [])) ≡ feeds_in (b ∷ []) + more (is_unfinished (b ∷ []))
+lines_one : (b : ℕ) → length (sheet_lines (b ∷ [])) ≡ feeds_in (b ∷ []) + from_bool (is_unfinished (b ∷ []))
 unfolding sheet_lines feeds_in is_unfinished joined
 lines_one b = test (eqb b LF)
   where
-    test : (t : Bool) → length (cond t ([] ∷ []) ((b ∷ []) ∷ [])) ≡ cond t 1 0 + more (not t)
+    test : (t : Bool) → length (cond t ([] ∷ []) ((b ∷ []) ∷ [])) ≡ cond t 1 0 + from_bool (not t)
     test true = refl
     test false = refl
 
-pub lines_counted : (s : List ℕ) → length (sheet_lines s) ≡ feeds_in s + more (is_unfinished s)
+pub lines_counted : (s : List ℕ) → length (sheet_lines s) ≡ feeds_in s + from_bool (is_unfinished s)
 unfolding sheet_lines feeds_in is_unfinished
 lines_counted [] = refl
 lines_counted (b ∷ []) = lines_one b
 lines_counted (b ∷ c ∷ bs) = rw (last_same b c bs) (lines_more b (c ∷ bs) _ (omega arith) (lines_counted (c ∷ bs)))
 
+-- The feeds that are counted, where nothing is left, and one more.
+pub all_counted : (s rest : List ℕ) (n : ℕ) → n + feeds_in rest ≡ feeds_in s → length rest ≡ 0 → n + from_bool (is_unfinished s) ≡ length (sheet_lines s)
+all_counted s rest n e z = omega (arith, lines_counted s, feeds_few rest)
+
 -- ---- from line to line
 
 -- What is behind a line's end is what is behind its line feed, which is not past the end of all.
-pub next_line : (rest : List ℕ) (end : ℕ) → drop (min (suc end) (length rest)) rest ≡ drop (suc end) rest
+pub next_line : (rest : List ℕ) (end : ℕ) → drop (min (length rest) (end + 1)) rest ≡ drop (suc end) rest
 next_line rest end = ⊎_elim
-    (λ (h : end < length rest). let m : min (suc end) (length rest) ≡ suc end = omega arith in rw m)
-    (λ (h : length rest ≤ end). let m : min (suc end) (length rest) ≡ length rest = omega arith in rw (m, drop-length, drop_of_length-le rest {i = suc end} (omega arith)))
+    (λ (h : end < length rest). let m : min (length rest) (end + 1) ≡ suc end = omega arith in rw m)
+    (λ (h : length rest ≤ end). let m : min (length rest) (end + 1) ≡ length rest = omega arith in rw (m, drop-length, drop_of_length-le rest {i = suc end} (omega arith)))
     (lt_or_ge end (length rest))

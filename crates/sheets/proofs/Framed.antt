@@ -1,14 +1,15 @@
 -- A line that is a command is all digits and has the length that it says; where the rest of a sheet does not begin with such a line, its
 -- first line is no command. Assumes nothing.
 use mathlib.Core.Path.{◌≡◌, refl, sym, ap, ap₂, ◌∙◌}
-use mathlib.Core.Logic.{◌≢◌, ⊎_elim}
+use mathlib.Core.Logic.{⊎_elim}
 use mathlib.Core.Bool.{Bool, true, false, ◌&&◌, true≢false}
 use mathlib.Core.List.{List, ◌∷◌}
 use mathlib.Core.Option.{none}
-use Prim.Native.Nat.{ℕ, zero, suc, ◌+◌, ◌*◌, ◌-◌, ◌≤◌, ◌<◌}
+use Rattle.std.specs.Prelude.{Some, None}
+use Prim.Native.Nat.{ℕ, zero, suc, ◌+◌, ◌*◌, ◌-◌, ◌≤◌, ◌<◌, min}
 use native.Mathlib.Omega.{arith}
-use lib.ListN.{length, get_or, take, drop}
-use lib.Seq.{length-take-le, take-add, take-take, drop-drop}
+use lib.ListN.{length, get_or, take, drop, length-take, length-drop}
+use lib.Seq.{length-take-le, take-add, take-take, drop-drop, get_or-take}
 use lib.Dec.{eqb}
 use borrow.Author.Tests.{eq-eqb, eqb-true, lt-ltb, le-ltb}
 use Rattle.numbers.proofs.Cases.{lt_or_ge}
@@ -19,9 +20,9 @@ use Rattle.rules.proofs.Digits.{digits_append, digits_parts}
 use Rattle.rules.proofs.Texts.{drop_take}
 use Rattle.tree.specs.Sheets.{FirstLine}
 use Rattle.tree.proofs.SheetLines.{digits_unbroken}
-use Rattle.text.specs.Reading.{are_digits, NumberRead, CharactersRead}
-use Rattle.text.proofs.DigitsRead.{number_is, is_number, no_number}
-use Rattle.sheets.specs.Reading.{is_end, FieldsRead, NoFields}
+use Rattle.text.specs.Reading.{NumberRead, CharactersRead}
+use Rattle.text.proofs.DigitsRead.{is_number, number_is, no_number}
+use Rattle.sheets.specs.Reading.{is_end}
 
 -- ---- a part of a part
 
@@ -39,6 +40,12 @@ module _ (s : List ℕ) (e : ℕ) where
   pairs_same zero i l = refl
   pairs_same (suc n) i l = ap₂ ◌∷◌ (field_same i 2 (omega arith)) (pairs_same n (i + 2) (omega arith))
 
+-- Pairs from j on, of what is behind the first i bytes.
+pairs_drop : (s : List ℕ) (i n j : ℕ) → pairs (drop i s) j n ≡ pairs s (i + j) n
+unfolding pairs field
+pairs_drop s i zero j = refl
+pairs_drop s i (suc n) j = ap₂ ◌∷◌ (ap (λ (t : List ℕ). read_on 0 (take 2 t)) (drop-drop j i s)) (pairs_drop s i n (j + 2) ∙ ap (λ (k : ℕ). pairs s k n) (omega arith))
+
 -- ---- where a line can end
 
 module _ (rest : List ℕ) (end : ℕ) where
@@ -54,6 +61,17 @@ module _ (rest : List ℕ) (end : ℕ) where
       (λ (h : length rest ≤ end). rw (le-ltb end (length rest) h) (eq-eqb (length rest) end (omega arith)))
       (lt_or_ge end (length rest))
 
+-- ---- where the first line ends
+
+first_order : {rest : List ℕ} {m n : ℕ} → FirstLine rest m → FirstLine rest n → n ≤ m
+first_order {rest} {m} {n} f g = ⊎_elim
+    (λ (h : m < n). absurd (g.unbroken m (omega (arith, length-take-le n rest g.within)) (get_or-take n rest m 0 h ∙ f.ended (omega (arith, g.within)))))
+    (λ (h : n ≤ m). h)
+    (lt_or_ge m n)
+
+pub first_same : {rest : List ℕ} {m n : ℕ} → FirstLine rest m → FirstLine rest n → parsed (take m rest) ≡ parsed (take n rest)
+first_same {rest} {m} {n} f g = let e : m ≡ n = omega (arith, first_order f g, first_order g f) in rw e
+
 -- ---- a line that is framed
 
 module _ (rest : List ℕ) where
@@ -67,11 +85,11 @@ module _ (rest : List ℕ) where
   -- The rest begins with a line of digits that has the length that it says.
   pub record Framed : Type 0 where
     pub long : 12 ≤ length rest
-    pub operation : are_digits rest 0 2 ≡ true
-    pub len : are_digits rest 2 2 ≡ true
+    pub operation : digits (take 2 rest) ≡ true
+    pub len : digits (take 2 (drop 2 rest)) ≡ true
     pub ends : is_end rest line_end ≡ true
-    pub characters : are_digits rest 4 (2 * length_field) ≡ true
-    pub number : are_digits rest (line_end - 8) 8 ≡ true
+    pub characters : digits (take (2 * length_field) (drop 4 rest)) ≡ true
+    pub number : digits (take 8 (drop (line_end - 8) rest)) ≡ true
 
 module _ (rest : List ℕ) where
   abbrev n : ℕ
@@ -120,7 +138,7 @@ module _ (rest : List ℕ) where
         let is : e ≡ 12 + 2 * field line 2 2 = sym (length-take-le e rest w) ∙ eqb-true (length line) _ s in
         let same : field line 2 2 ≡ n = field_same rest e 2 2 (omega arith) in
         let at : e ≡ end = is ∙ ap (λ (m : ℕ). 12 + 2 * m) same in
-        let part : (i k : ℕ) → i + k ≤ e → are_digits rest i k ≡ true = λ i k l. sym (ap digits (part_same rest e i k l)) ∙ (digits_parts k (drop i line) (digits_parts i line d).1).0 in
+        let part : (i k : ℕ) → i + k ≤ e → digits (take k (drop i rest)) ≡ true = λ i k l. sym (ap digits (part_same rest e i k l)) ∙ (digits_parts k (drop i line) (digits_parts i line d).1).0 in
         record {
           long = omega arith;
           operation = part 0 2 (omega arith);
@@ -140,51 +158,53 @@ clash : {b : Bool} → b ≡ true → b ≡ false → ⊥
 clash y f = true≢false (sym y ∙ f)
 
 module _ (rest : List ℕ) where
-  -- A line that is no command.
-  pub none_read : {key : List ℕ} {o l n e : ℕ} → NoFields rest o l n e → (Framed rest → ⊥) → FieldsRead rest key o l n e
-  unfolding command_of
-  none_read r unframed = record {
-    first = r.first;
-    command = rw r.operation_none (not_framed rest r.first unframed);
-    short = omega (arith, r.len_none);
-    small = omega (arith, r.number_none);
-  }
-
   pub too_short : length rest < 12 → Framed rest → ⊥
   too_short h f = omega (arith, f.long)
 
-  pub no_operation : {r : ℕ} → NumberRead rest 0 2 r → r ≡ 4294967296 → Framed rest → ⊥
-  no_operation r e f = clash f.operation (no_number r (omega arith) e)
+  pub no_operation : NumberRead (take 2 rest) None → Framed rest → ⊥
+  no_operation r f = clash f.operation (no_number r)
 
-  pub no_length : {r : ℕ} → NumberRead rest 2 2 r → r ≡ 4294967296 → Framed rest → ⊥
-  no_length r e f = clash f.len (no_number r (omega arith) e)
+  pub no_length : NumberRead (take 2 (drop 2 rest)) None → Framed rest → ⊥
+  no_length r f = clash f.len (no_number r)
 
-  module _ {len : ℕ} (l : NumberRead rest 2 2 len) (d : len ≢ 4294967296) where
-    pub length_small : len < 256
-    length_small = l.small (is_number l d)
-
+  module _ {len : ℕ} (l : NumberRead (take 2 (drop 2 rest)) (Some len)) where
     length_is : len ≡ length_field rest
-    length_is = number_is l (is_number l d)
+    unfolding field
+    length_is = number_is l
 
     pub no_end : is_end rest (12 + 2 * len) ≡ false → Framed rest → ⊥
-    no_end no-end-there f = clash f.ends (rw length_is at no-end-there)
+    no_end e f = clash f.ends (rw length_is at e)
 
-    pub no_characters : {key : List ℕ} {b : Bool} → CharactersRead rest 4 len key b → b ≡ false → Framed rest → ⊥
-    no_characters r e f = clash f.characters (sym (rw length_is at r.is) ∙ e)
+    module _ {k : ℕ} (characters : k ≡ 2 * len) where
+      pub no_characters : {key : List ℕ} → CharactersRead (take k (drop 4 rest)) key None → Framed rest → ⊥
+      no_characters r f = clash f.characters (sym (rw (characters, length_is) at r.is))
 
-    pub no_last_number : {r : ℕ} → NumberRead rest (12 + 2 * len - 8) 8 r → r ≡ 4294967296 → Framed rest → ⊥
-    no_last_number r e f = clash f.number (rw length_is at (no_number r (omega arith) e))
+    module _ {i k : ℕ} (behind : i ≡ 4 + 2 * len) (eight : k ≡ 8) where
+      pub no_last_number : NumberRead (take k (drop i rest)) None → Framed rest → ⊥
+      no_last_number r f =
+          let e : i ≡ line_end rest - 8 = omega (arith, length_is) in
+          clash f.number (rw (eight, e) at (no_number r))
 
-    -- A line that is one.
-    pub all_read : {key : List ℕ} {b : Bool} {o n : ℕ} → b ≡ true → 12 ≤ length rest → NumberRead rest 0 2 o → o ≢ 4294967296 → len ≤ length key → is_end rest (12 + 2 * len) ≡ true →
-        CharactersRead rest 4 len key b → NumberRead rest (12 + 2 * len - 8) 8 n → n ≢ 4294967296 → FieldsRead rest key o len n (12 + 2 * len)
-    all_read y long r d' short = rw length_is (λ ends characters m d''.
-        let digit = is_number r d' in
-        let digits'' = is_number m d'' in
-        let f : Framed rest = record { long = long; operation = digit; len = is_number l d; ends = ends; characters = sym characters.is ∙ y; number = digits'' } in
-        record {
-          first = framed_first rest f;
-          command = framed_command rest f ∙ rw (number_is r digit, number_is m digits'', characters.read y);
-          short = rw length_is at short;
-          small = m.small digits'';
-        })
+    pub fields_read : {operation number : ℕ} {key : List ℕ} (i k k' : ℕ) → 12 ≤ length rest → NumberRead (take 2 rest) (Some operation) →
+        is_end rest (12 + 2 * len) ≡ true → CharactersRead (take k (drop 4 rest)) key (Some tt) → k ≡ 2 * len → length key ≡ min len 255 →
+        NumberRead (take k' (drop i rest)) (Some number) → k' ≡ 8 → i ≡ 4 + 2 * len →
+        FirstLine rest (12 + 2 * len) × (parsed (take (12 + 2 * len) rest) ≡ command_of operation (length key) key number)
+    unfolding field
+    fields_read {key = key} i k k' long o ends c is whole m eight behind =
+        let two : length (take 2 (drop 2 rest)) ≡ 2 = omega (arith, length-take 2 (drop 2 rest), length-drop 2 rest) in
+        let few : len < 256 = rw two at l.small in
+        let e : i ≡ line_end rest - 8 = omega (arith, length_is) in
+        let chars : CharactersRead (take (2 * length_field rest) (drop 4 rest)) key (Some tt) = rw (is, length_is) at c in
+        let last : NumberRead (take 8 (drop (line_end rest - 8) rest)) (Some _) = rw (eight, e) at m in
+        let framed : Framed rest = record {
+          long = long;
+          operation = is_number o;
+          len = is_number l;
+          ends = rw length_is at ends;
+          characters = sym chars.is;
+          number = is_number last;
+        } in
+        let spelt : length key ≡ length_field rest = omega (arith, length_is) in
+        let key_is : key ≡ pairs rest 4 (length_field rest) =
+        rw spelt at chars.read ∙ pairs_same (drop 4 rest) (2 * length_field rest) (length_field rest) 0 (omega arith) ∙ pairs_drop rest 4 (length_field rest) 0 in
+        (rw length_is (framed_first rest framed), rw (length_is, number_is o, spelt, key_is, number_is last) (framed_command rest framed))

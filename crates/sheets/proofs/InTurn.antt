@@ -3,21 +3,23 @@
 use mathlib.Core.Path.{◌≡◌, refl, sym, ap, ◌∙◌}
 use mathlib.Core.Bool.{true}
 use mathlib.Core.List.{List, [], ◌∷◌, ◌++◌}
-use mathlib.Core.Option.{Option}
+use mathlib.Core.Option as maybe
+use Rattle.std.specs.Prelude.{Option, Err}
 use Prim.Native.Nat.{ℕ, suc, ◌+◌, ◌*◌, ◌-◌, ◌/◌, ◌≤◌, ◌<◌, min}
 use native.Mathlib.Omega.{arith}
 use lib.ListN.{length, take, drop, length-drop}
-use lib.Seq.{sets, length-sets, length-take-le, take_all}
+use lib.Seq.{sets, length-sets, take_all}
 use lib.IntN.{ℤ}
 use borrow.Rule.Slice.PartMut.{put_mid, mid_of}
 use borrow.Author.Tests.{le-leb, lt-leb}
-use Rattle.rules.specs.declared.Answer.{Answer}
-use Rattle.rules.specs.declared.Answer.TheVariants.{Done, NoSpace}
+use Rattle.rules.specs.declared.Refusal.TheVariants.{NoSpace}
+use Rattle.rules.specs.Answers.{Answer, counted}
 use Rattle.rules.specs.WhatTheIndexDoes.{document01, last_cell}
 use Rattle.rules.specs.ASoundTable.{sound}
 use Rattle.rules.specs.Rendering.{chained, read_table}
-use Rattle.rules.specs.Commands.{Command, Outcome}
-use Rattle.rules.specs.ARun.{sheet_lines, command_of, parsed, answer_bytes, Answered, answered_line, answered_lines}
+use Rattle.rules.specs.Commands.{Outcome}
+use Rattle.rules.specs.Commands as commands
+use Rattle.rules.specs.ARun.{sheet_lines, parsed, answer_bytes, Answered, answered_line, answered_lines}
 use Rattle.rules.specs.Calls.{sound_run}
 use Rattle.rules.specs.Promised.{Edits, Runs}
 use Rattle.rules.proofs.Codes.{document01_round_trip}
@@ -31,13 +33,14 @@ use Rattle.tree.proofs.Runs.{line_kept}
 use Rattle.tree.proofs.SingleCalls.{chained_audited, line_rendered}
 use Rattle.tree.proofs.EndedRuns.{again_renders}
 use Rattle.text.proofs.Sets.{sets_then, sets_part}
-use Rattle.sheets.specs.Reading.{FieldsRead}
+use Rattle.sheets.specs.declared.reading.Command.{Command}
+use Rattle.sheets.specs.Reading.{asked_or_none, LineRead}
 use Rattle.sheets.proofs.Counted.{next_line}
-use Rattle.sheets.specs.Answering.{line_edit, fields_edit, AnswersLines, lines_answered, AllAnswered}
+use Rattle.sheets.specs.Answering.{line_edit, AnswersLines, lines_answered, AllAnswered}
 
 -- ---- a line
 
-module _ (base check : List ℤ) (whole : sound document01 base check ≡ true) (c : Option Command) where
+module _ (base check : List ℤ) (whole : sound document01 base check ≡ true) (c : maybe.Option commands.Command) where
   -- What the line comes to on the table that the arrays hold.
   abbrev one : Outcome
   one = answered_line document01 (last_cell base) (read_table base check) c
@@ -87,27 +90,24 @@ module _ (base₀ check₀ : List ℤ) (sheet out₀ : List ℕ) where
           let t : read_table base check ≡ (lines_answered base₀ check₀ sheet).table = rw none at s.table_left in
           let d = rules_render document01 base check s.whole in
           record {
-            answer = ap Done (omega (arith, rw none at s.lines_left));
+            answer = ap counted (omega (arith, rw none at s.lines_left));
             base_is = d.base_is ∙ rw (s.long, t);
             check_is = d.check_is ∙ rw (s.long, t);
             out_is = rw none at s.bytes_left;
           }
 
-      module _ (some : 1 ≤ length rest) {key : List ℕ} {operation len number end : ℕ} (f : FieldsRead rest key operation len number end) where
+      module _ (some : 1 ≤ length rest) {c : Option Command} {end : ℕ} (f : LineRead rest c end) where
         split : sheet_lines rest ≡ take end rest ∷ sheet_lines (drop (suc end) rest)
         split = first_line some f.first
 
         pub room_left : 11 * count + 11 ≤ length out
         room_left = omega (arith, s.lines_left, s.out_long, asked.room, ap length split)
 
-        command_is : parsed (take end rest) ≡ command_of operation (length (take len key)) (take len key) number
-        command_is = f.command ∙ rw (length-take-le len key f.short)
-
-        module _ {r : Answer} {base' check' : List ℤ} (e : Edits (fields_edit base check operation number (take len key)) r base' check') where
+        module _ {r : Answer} {base' check' : List ℤ} (e : Edits (line_edit base check (asked_or_none c)) r base' check') where
           on : lines_answered base check rest ≡ record { bytes = answer_bytes r ++ (lines_answered base' check' (drop (suc end) rest)).bytes; table = (lines_answered base' check' (drop (suc end) rest)).table }
-          on = lines_on base check s.whole _ e rest (take end rest) (drop (suc end) rest) split command_is
+          on = lines_on base check s.whole _ e rest (take end rest) (drop (suc end) rest) split f.command
 
-          pub still_more : {part : List ℕ} {next : ℕ} → next ≡ min (suc end) (length rest) → part ≡ sets (mid_of (11 * count) (length out - 11 * count) out) 0 (answer_bytes r) →
+          pub still_more : {part : List ℕ} {next : ℕ} → next ≡ min (length rest) (end + 1) → part ≡ sets (mid_of (11 * count) (length out - 11 * count) out) 0 (answer_bytes r) →
               Still base' check' (put_mid (11 * count) (length out - 11 * count) out part) (take (length rest - next) (drop next rest)) (count + 1)
           still_more {part} {next} n is =
               let more : take (length rest - next) (drop next rest) ≡ drop (suc end) rest = take_all (length rest - next) (drop next rest) (rw length-drop (omega arith)) ∙ rw n (next_line rest end) in
@@ -128,13 +128,13 @@ module _ (base check : List ℤ) (sheet out : List ℕ) where
   abbrev ran : Answer → List ℤ → List ℤ → List ℕ → Type 0
   ran = Runs (sound_run chained document01 base check sheet out)
 
-  pub no_space : length out / 11 < length (sheet_lines sheet) → ran NoSpace base check out
+  pub no_space : length out / 11 < length (sheet_lines sheet) → ran (Err NoSpace) base check out
   unfolding sound_run
   no_space h = rw (lt-leb (11 * length (sheet_lines sheet)) (length out) (omega arith))
       (record { answer = refl; base_is = refl; check_is = refl; out_is = refl })
 
   pub all_answered : length (sheet_lines sheet) ≤ length out / 11 → {r : ℕ} {base' check' : List ℤ} {out' : List ℕ} →
-      AllAnswered base check sheet out r base' check' out' → ran (Done r) base' check' out'
+      AllAnswered base check sheet out r base' check' out' → ran (counted r) base' check' out'
   unfolding sound_run
   all_answered h a = rw (le-leb (11 * length (sheet_lines sheet)) (length out) (omega arith))
       a

@@ -1,15 +1,14 @@
 -- What is asked of those who answer lines on a table known to be sound, and what they leave.
 use Rattle.std.specs.Prelude.{◌≡◌, true, List, ℕ, ◌*◌, ◌≤◌, length, ℤ}
 use Rattle.std.proofs.Math.Option.{Option}
-use Rattle.rules.specs.declared.Answer.TheVariants.{Done}
+use Rattle.rules.specs.Answers.{counted}
 use Rattle.rules.specs.WhatTheIndexDoes.{document01, last_cell}
 use Rattle.rules.specs.ASoundTable.{sound}
 use Rattle.rules.specs.Rendering.{chained, read_table}
 use Rattle.rules.specs.Commands.{Command}
-use Rattle.rules.specs.ARun.{sheet_lines, command_of, Answered, answered_line, answered_lines}
+use Rattle.rules.specs.ARun.{sheet_lines, Answered, answered_line, answered_lines}
 use Rattle.rules.specs.Calls.{Edited, ended, stored}
 use Rattle.rules.specs.Promised.{Runs}
-use Rattle.tree.specs.WrittenLines.{EightDigits}
 
 -- ---- one line
 
@@ -17,15 +16,6 @@ module _ (base check : List ℤ) where
   -- What a line leaves, by its command or none.
   abbrev pub line_edit : Option Command → Edited
   line_edit o = stored chained document01 base check (answered_line document01 (last_cell base) (read_table base check) o)
-
-  -- The same by its fields.
-  abbrev pub fields_edit : ℕ → ℕ → List ℕ → Edited
-  fields_edit operation number key = line_edit (command_of operation (length key) key number)
-
--- That a line's fields be carried out.
-pub record CarriesOut (base check : List ℤ) (number : ℕ) : Type 0 where
-  pub whole : sound document01 base check ≡ true
-  pub small : EightDigits number
 
 -- ---- all of them
 
@@ -40,4 +30,4 @@ lines_answered base check sheet = answered_lines document01 (last_cell base) (re
 
 -- What a run leaves where it is done, with the number of lines.
 abbrev pub AllAnswered : List ℤ → List ℤ → List ℕ → List ℕ → ℕ → List ℤ → List ℤ → List ℕ → Type 0
-AllAnswered base check sheet out r = Runs (ended chained document01 (length base) (read_table base check) sheet out) (Done r)
+AllAnswered base check sheet out r = Runs (ended chained document01 (length base) (read_table base check) sheet out) (counted r)

@@ -1,24 +1,34 @@
 -- What is read from the first line of what is left of a sheet.
-use Rattle.std.specs.Prelude.{◌≡◌, Bool, cond, List, ℕ, ◌≤◌, length, get_or, take, ltb, eqb}
+use Rattle.std.specs.Prelude.{◌≡◌, Bool, cond, List, ℕ, length, get_or, take, ltb, eqb, Option, Some, None, MatchOption}
+use Rattle.std.proofs.Math.Option as maybe
 use Rattle.rules.specs.Listing.{LF}
-use Rattle.rules.specs.ARun.{command_of, parsed}
+use Rattle.rules.specs.Commands as commands
+use Rattle.rules.specs.ARun.{parsed}
 use Rattle.tree.specs.Sheets.{FirstLine}
-use Rattle.tree.specs.WrittenLines.{EightDigits}
+use Rattle.sheets.specs.declared.reading.Command.{Command}
+use Rattle.sheets.specs.declared.reading.Command.TheVariants.{Insert, Delete, Find, Compact}
 
 -- Whether a line can end there: at the end of what is left, or at a line feed.
 abbrev pub is_end : List ℕ → ℕ → Bool
 is_end rest end = cond (ltb end (length rest)) (eqb (get_or rest end 0) LF) (eqb (length rest) end)
 
--- The first line ends there, and its command is that of these fields, with the characters at the front of the key.
-pub record FieldsRead (rest key : List ℕ) (operation len number end : ℕ) : Type 0 where
-  pub first : FirstLine rest end
-  pub command : parsed (take end rest) ≡ command_of operation len (take len key) number
-  pub short : len ≤ length key
-  pub small : EightDigits number
+-- The command that is asked for.
+abbrev pub asked : Command → commands.Command
+asked (Insert key row) = commands.insert key.now row.0
+asked (Delete key) = commands.delete key.now
+asked (Find key) = commands.find key.now
+asked (Compact n) = commands.compact n
 
--- The first line ends there, and all fields are 0.
-pub record NoFields (rest : List ℕ) (operation len number end : ℕ) : Type 0 where
+-- The same, or none.
+abbrev pub asked_or_none : Option Command → maybe.Option commands.Command
+asked_or_none None = maybe.none
+asked_or_none (Some c) = maybe.some (asked c)
+
+-- The first line ends there, and this is its command or none.
+pub record LineRead (rest : List ℕ) (c : Option Command) (end : ℕ) : Type 0 where
   pub first : FirstLine rest end
-  pub operation_none : operation ≡ 0
-  pub len_none : len ≡ 0
-  pub number_none : number ≡ 0
+  pub command : parsed (take end rest) ≡ asked_or_none c
+
+-- The first line is this command and ends there; with none, it is none, wherever it ends.
+abbrev pub CommandRead : List ℕ → Option (Command × ℕ) → Type 0
+CommandRead rest r = MatchOption r ((end : ℕ) → FirstLine rest end → parsed (take end rest) ≡ maybe.none) (λ c. LineRead rest (Some c.0) c.1)

@@ -10,9 +10,11 @@ ghost use Rattle.rules.specs.Commands.{insert, delete, find, compact};
 ghost use Rattle.rules.specs.Rendering.{chained};
 ghost use Rattle.rules.specs.Calls.{sound_run};
 ghost use Rattle.rules.specs.Promised.{Edits, Runs};
-ghost use Rattle.sheets.specs.Answering.{AnswersLines, AllAnswered, CarriesOut, line_edit, fields_edit};
+ghost use Rattle.sheets.specs.Answering.{AnswersLines, AllAnswered, line_edit};
+ghost use Rattle.sheets.specs.Reading.{asked_or_none};
 
-use rules::{Answer, Row};
+use reading::Command;
+use rules::{Answer, Arrays, Done, Refusal, Row};
 
 // A sheet's lines: how many there are, and where one ends.
 mod lines;
@@ -26,9 +28,9 @@ pub fn run(base: &mut [i32], check: &mut [i32], sheet: &[u8], answers: &mut [u8]
     ensures { Runs (sound_run chained document01 base.old check.old sheet.now answers.old) result base.new check.new answers.new }
 {
     if answers.len() / 11 < lines::count(sheet) {
-        return Answer::NoSpace;
+        return Err(Refusal::NoSpace);
     }
-    Answer::Done(answer(base, check, sheet, answers))
+    Ok(Done::Count(answer(base, check, sheet, answers)))
 }
 
 // Answers each line in turn; each answer goes to the next part of the buffer. Gives the number of lines.
@@ -39,51 +41,29 @@ pub fn answer(base: &mut [i32], check: &mut [i32], sheet: &[u8], answers: &mut [
     let mut key = [0u8; 255];
     let mut rest = sheet;
     let mut count = 0;
-    while 0 < rest.len() {
-        let line = reading::read(rest, &mut key);
-        let length = line.length;
-        let said = carry_out(base, check, line.operation, line.number, &key[..length]);
-        let at = 11 * count;
-        text::put_answer(&mut answers[at..], said);
+    while !rest.is_empty() {
+        let (command, end) = reading::read(rest, &mut key);
+        let said = carry_out(base, check, command);
+        text::put_answer(&mut answers[11 * count..], said);
         count += 1;
-        let next = lines::next(rest, line.end);
-        rest = &rest[next..];
+        rest = &rest[rest.len().min(end + 1)..];
     }
     count
 }
 
-// Carries out what a line says, by its operation, its number and its characters; LINE where that is no command.
-fn carry_out(
-    base: &mut [i32],
-    check: &mut [i32],
-    operation: usize,
-    number: usize,
-    key: &[u8],
-) -> Answer
-    requires { CarriesOut base.old check.old number }
-    ensures { Edits (fields_edit base.old check.old operation number key.now) result base.new check.new }
+// Carries out the command that a line is; LINE where it is none.
+#[tactic(auto, using(crate::proofs::Carried::refused))]
+fn carry_out(base: &mut [i32], check: &mut [i32], command: Option<Command>) -> Answer
+    requires { sound document01 base.old check.old ≡ true }
+    ensures { Edits (line_edit base.old check.old (asked_or_none command.entry)) result base.new check.new }
 {
-    if operation == 1 {
-        return insert(base, check, key, Row(number as u32));
+    match command {
+        Some(Command::Insert(key, row)) => insert(base, check, key, row),
+        Some(Command::Delete(key)) => delete(base, check, key),
+        Some(Command::Find(key)) => find(base, check, key),
+        Some(Command::Compact(n)) => compact(base, check, n),
+        None => Err(Refusal::Line),
     }
-    if operation == 2 {
-        if number == 0 {
-            return delete(base, check, key);
-        }
-        return Answer::Line;
-    }
-    if operation == 3 {
-        if number == 0 {
-            return find(base, check, key);
-        }
-        return Answer::Line;
-    }
-    if operation == 4 {
-        if key.len() == 0 {
-            return compact(base, check, number);
-        }
-    }
-    Answer::Line
 }
 
 // A line's insertion: KEY, NUMBER, then the insertion itself.
@@ -92,10 +72,10 @@ fn insert(base: &mut [i32], check: &mut [i32], key: &[u8], row: Row) -> Answer
     ensures { Edits (line_edit base.old check.old (some (insert key.now row.0))) result base.new check.new }
 {
     if !rules::is_identifier(key) {
-        return Answer::Key;
+        return Err(Refusal::Key);
     }
     if !rules::is_row(row.0 as usize) {
-        return Answer::Number;
+        return Err(Refusal::Number);
     }
     insertion::insert(base, check, key, row)
 }
@@ -106,20 +86,17 @@ fn delete(base: &mut [i32], check: &mut [i32], key: &[u8]) -> Answer
     ensures { Edits (line_edit base.old check.old (some (delete key.now))) result base.new check.new }
 {
     if !rules::is_identifier(key) {
-        return Answer::Key;
+        return Err(Refusal::Key);
     }
     deletion::delete(base, check, key)
 }
 
-// A line's lookup: KEY, then the walk.
+// A line's lookup: KEY, ABSENT, or done with the row.
 fn find(base: &[i32], check: &[i32], key: &[u8]) -> Answer
     requires { sound document01 base.now check.now ≡ true }
     ensures { Edits (line_edit base.now check.now (some (find key.now))) result base.now check.now }
 {
-    if !rules::is_identifier(key) {
-        return Answer::Key;
-    }
-    finding::found_or_absent(finding::look_up(base, check, key).row)
+    finding::row(Arrays { base, check }, key)
 }
 
 // A line's compaction: NUMBER, then the compaction itself.
@@ -128,7 +105,7 @@ fn compact(base: &mut [i32], check: &mut [i32], n: usize) -> Answer
     ensures { Edits (line_edit base.old check.old (some (compact n))) result base.new check.new }
 {
     if rules::MOST_MOVES < n {
-        return Answer::Number;
+        return Err(Refusal::Number);
     }
     deletion::compact(base, check, n)
 }

@@ -1,72 +1,73 @@
 // What a line says. A line that is a command tells its own length, so that only what is none is searched for its end.
 ghost use Rattle.std.specs.Prelude.{◌≡◌, length};
-ghost use Rattle.sheets.specs.Reading.{FieldsRead, NoFields, is_end};
+ghost use Rattle.rules.specs.ARun.{command_of};
+ghost use Rattle.tree.specs.WrittenLines.{EightDigits};
+ghost use Rattle.sheets.specs.Reading.{CommandRead, LineRead, asked_or_none, is_end};
 
-use text::reading::NO_NUMBER;
+use rules::Row;
 
-// The fields of a line, with the length of its characters in the place of the characters, and where it ends. Operation 0 is none.
-#[derive(Drop)]
-pub struct Fields {
-    pub operation: usize,
-    pub length: usize,
-    pub number: usize,
-    pub end: usize,
+// What a line asks for, with the characters of its key.
+#[derive(Clone, Copy)]
+pub enum Command<'a> {
+    Insert(&'a [u8], Row),
+    Delete(&'a [u8]),
+    Find(&'a [u8]),
+    Compact(usize),
 }
 
-// Reads the first line of what is left of a sheet; its characters go into the key.
-pub fn read(rest: &[u8], key: &mut [u8]) -> Fields
+// Reads the first line of what is left of a sheet: its command, if it is one, and where it ends. Its characters go into the key.
+pub fn read<'a>(rest: &[u8], key: &'a mut [u8]) -> (Option<Command<'a>>, usize)
     requires { length key.old ≡ 255 }
-    ensures { FieldsRead rest.now key.new result.operation result.length result.number result.end }
+    ensures { LineRead rest.now result.0 result.1 }
+{
+    match read_command(rest, key) {
+        Some((command, end)) => (Some(command), end),
+        None => (None, crate::lines::end(rest)),
+    }
+}
+
+// The command with which what is left begins, and where its line ends; none where the first line is no command.
+fn read_command<'a>(rest: &[u8], key: &'a mut [u8]) -> Option<(Command<'a>, usize)>
+    requires { length key.old ≡ 255 }
+    ensures { CommandRead rest.now result }
 {
     if rest.len() < 12 {
-        return no_command(rest);
+        return None;
     }
-    let operation = text::reading::number(rest, 0, 2);
-    if operation == NO_NUMBER {
-        return no_command(rest);
-    }
-    let length = text::reading::number(rest, 2, 2);
-    if length == NO_NUMBER {
-        return no_command(rest);
-    }
+    let operation = text::reading::number(&rest[..2])?;
+    let length = text::reading::number(&rest[2..4])?;
     let end = 12 + 2 * length;
     if !is_end(rest, end) {
-        return no_command(rest);
+        return None;
     }
-    if !text::reading::characters(rest, 4, length, key) {
-        return no_command(rest);
-    }
-    let number = text::reading::number(rest, end - 8, 8);
-    if number == NO_NUMBER {
-        return no_command(rest);
-    }
-    Fields {
-        operation,
-        length,
-        number,
-        end,
+    let key = &mut key[..length];
+    text::reading::characters(&rest[4..end - 8], key)?;
+    let number = text::reading::number(&rest[end - 8..end])?;
+    let command = command_of(operation, key, number)?;
+    Some((command, end))
+}
+
+// The command that three fields say, or none.
+#[tactic(auto, unfolding(rules::specs::ARun::command_of))]
+fn command_of<'a>(operation: usize, key: &'a [u8], number: usize) -> Option<Command<'a>>
+    requires { EightDigits number }
+    ensures { asked_or_none result ≡ command_of operation (length key.now) key.now number }
+{
+    match (operation, key.len(), number) {
+        (1, _, _) => Some(Command::Insert(key, Row(number as u32))),
+        (2, _, 0) => Some(Command::Delete(key)),
+        (3, _, 0) => Some(Command::Find(key)),
+        (4, 0, _) => Some(Command::Compact(number)),
+        _ => None,
     }
 }
 
-// A line can end there: at the end of what is left, or at a line feed.
+// Whether a line can end there: at the end of what is left, or at a line feed.
 fn is_end(rest: &[u8], end: usize) -> bool
     ensures { result ≡ is_end rest.now end }
 {
-    if end < rest.len() {
-        return rest[end] == b'\n';
-    }
-    rest.len() == end
-}
-
-// A line that is no command.
-fn no_command(rest: &[u8]) -> Fields
-    ensures { NoFields rest.now result.operation result.length result.number result.end }
-{
-    let end = crate::lines::end(rest);
-    Fields {
-        operation: 0,
-        length: 0,
-        number: 0,
-        end,
+    match rest.get(end) {
+        Some(&b) => b == b'\n',
+        None => rest.len() == end,
     }
 }

@@ -1,26 +1,10 @@
--- `find` refuses what is no identifier, and walks otherwise. Assumes nothing.
-use mathlib.Core.Path.{ap, ◌∙◌}
-use mathlib.Core.Bool.{true}
-use Rattle.rules.specs.WhatTheIndexDoes.{document01}
-use Rattle.rules.specs.Answers.{found_or_absent}
-use Rattle.rules.specs.Commands.{find, key_allowed}
-use Rattle.rules.specs.ARun.{answered_line}
-use Rattle.rules.proofs.Choices.{was_no, was_yes}
-use Rattle.finding.proofs.KnownSound.{lengths}
-use Rattle.tree.proofs.Identifiers.{identifier_coded}
-use Rattle.tree.proofs.Answered.{answered_key}
+-- `find` looks the text up in the table. Assumes nothing.
+use Rattle.finding.proofs.KnownSound.{same_length, enough, few}
 use Rattle.sheets.proofs.Carried.{looked_up}
 use Rattle.sheets.proofs.find.Goals as goal
 
-pub returns-then-not-is_identifier : goal.returns-then-not-is_identifier
-unfolding answered_line key_allowed
-returns-then-not-is_identifier c = answered_key _ _ true (find _) (was_no _ c.is_identifier.ensures c.if-not-is_identifier.true)
-
-pub look_up-requires : goal.look_up-requires
-look_up-requires c = lengths _ _ c.requires
+pub invariant_of-row : goal.invariant_of-row
+invariant_of-row c = record { same_length = same_length _ _ c.requires; enough = enough _ _ c.requires; few = few _ _ c.requires }
 
 pub returns : goal.returns
-returns c =
-    let identifier = was_yes _ c.is_identifier.ensures c.if-not-is_identifier.false in
-    let row = c.look_up.ensures.row_is (identifier_coded document01 _ identifier) in
-    looked_up _ _ c.requires _ identifier (c.found_or_absent.ensures ∙ ap found_or_absent row)
+returns c = looked_up _ _ c.requires _ c.row.ensures
