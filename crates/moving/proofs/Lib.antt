@@ -1,5 +1,4 @@
 -- A node's children: their codes, and their move.
-pub mod Collected
 pub mod Handing
 pub mod OneHop
 pub mod HopByHop

@@ -1,6 +1,6 @@
 -- The moves of a node's children, as changes of a table; and what is asked of those who make them in the arrays. Each leaves the
 -- rendering of the table with that one thing changed.
-use Rattle.std.specs.Prelude.{◌≡◌, ◌≢◌, false, List, ◌∷◌, ℕ, ◌+◌, ◌≤◌, ◌<◌, length, take, ℤ}
+use Rattle.std.specs.Prelude.{◌≡◌, ◌≢◌, false, List, ℕ, ◌+◌, ◌≤◌, ◌<◌, ℤ}
 use Rattle.rules.specs.WhatTheIndexDoes.{GREATEST, document01}
 use Rattle.rules.specs.Table.{Cells, Table, used, child_codes}
 use Rattle.tree.specs.Soundness.{Tree}
@@ -48,15 +48,9 @@ pub record Relocates (base check : List ℤ) (s q : ℕ) (codes : List ℕ) (t :
   pub codes_are : codes ≡ child_codes t.cells s GREATEST
   pub inside : (c : ℕ) → Among c codes → q + c ≤ t.size
 
--- That the codes of the children of s be written behind another one.
-pub record Collects (base check : List ℤ) (s : ℕ) (codes : List ℕ) (t : Table) : Type 0 where
+-- That the codes of the children of s be collected.
+pub record Collects (base check : List ℤ) (s : ℕ) (t : Table) : Type 0 where
   pub shown : Shown base check t
   pub some : 1 ≤ s
   pub inside : s ≤ t.size
   pub based : 1 ≤ (t.cells s).base
-  pub room : length codes ≡ GREATEST + 1
-
--- The n codes at the front are c and behind it those of the children of s, the greatest first.
-pub record Collected (T : Cells) (s c : ℕ) (codes : List ℕ) (n : ℕ) : Type 0 where
-  pub front : take n codes ≡ c ∷ child_codes T s GREATEST
-  pub count : n ≡ 1 + length (child_codes T s GREATEST)

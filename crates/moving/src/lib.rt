@@ -2,29 +2,70 @@
 // move; to ask for a cell's parent while children move is wrong, for one that has moved can stand where another is looked for.
 #![tactic(auto)]
 
+ghost use Rattle.std.specs.Prelude.{◌≡◌, List, [], ◌∷◌, ◌++◌, ℕ, ◌+◌, ◌≤◌, length, take};
+ghost use Rattle.rules.specs.WhatTheIndexDoes.{GREATEST};
+ghost use Rattle.rules.specs.Table.{child_codes};
 ghost use Rattle.rules.specs.Insertion.{relocate};
 ghost use Rattle.tree.specs.MovingInTurn.{hop};
 ghost use Rattle.cells.specs.Edits.{Shown, SomeTable, EveryTable, celled};
-ghost use Rattle.moving.specs.Children.{handed, Hands, Hops, Relocates, Collects, Collected};
+ghost use Rattle.moving.specs.Children.{handed, Hands, Hops, Relocates, Collects};
 
 use numbers::Plus;
 use rules::{Alphabet, Cell};
+use std::marker::Model;
 
-// Writes the code c and behind it the codes of the children of s, the greatest first. Gives their number, c included.
-pub fn collect(base: &[i32], check: &[i32], s: Cell, c: usize, codes: &mut [usize]) -> usize
-    requires { SomeTable (Collects base.now check.now s.0 codes.old) }
-    ensures { EveryTable (Collects base.now check.now s.0 codes.old) (λ t. Collected t.cells s.0 c codes.new result) }
+// Some codes: at most as many as there are, and one more.
+#[derive(Drop)]
+pub struct Codes {
+    room: [usize; Alphabet::GREATEST + 1],
+    count: usize,
+}
+
+impl Model for Codes {
+    ghost Value = { List ℕ };
+
+    ghost view = { λ codes. take codes.count codes.room };
+
+    ghost invariant = { λ codes. codes.count ≤ GREATEST + 1 };
+}
+
+impl Codes {
+    fn one(code: usize) -> Codes
+        ensures { result ≡ code ∷ [] }
+    {
+        let mut room = [0; Alphabet::GREATEST + 1];
+        room[0] = code;
+        Codes { room, count: 1 }
+    }
+
+    fn push(&mut self, code: usize)
+        requires { length self.old ≤ GREATEST }
+        ensures { self.new ≡ self.old ++ code ∷ [] }
+    {
+        self.room[self.count] = code;
+        self.count += 1;
+    }
+
+    pub fn as_slice(&self) -> &[usize]
+        ensures { result.now ≡ self.now }
+    {
+        &self.room[..self.count]
+    }
+}
+
+// The code c and behind it the codes of the children of s, the greatest first.
+pub fn collect(base: &[i32], check: &[i32], s: Cell, c: usize) -> Codes
+    requires { SomeTable (Collects base.now check.now s.0) }
+    ensures { EveryTable (Collects base.now check.now s.0) (λ t. result ≡ c ∷ child_codes t.cells s.0 GREATEST) }
 {
     let b = numbers::at::<Plus>(base, s.0);
-    codes[0] = c;
-    let mut n = 1;
+    let mut codes = Codes::one(c);
     for k in (1..=Alphabet::GREATEST).rev() {
         if numbers::is_at(check, b + k, s.0) {
-            codes[n] = k;
-            n += 1;
+            codes.push(k);
         }
     }
-    n
+    codes
 }
 
 // The children of s, whose codes these are, move to base q.

@@ -1,11 +1,11 @@
--- `collect` writes the codes of a cell's children behind another code. The loop's invariant: the codes written, with those that
--- check has yet to tell behind them, are all of them. The measure is the code at hand. Assumes nothing.
+-- `collect` gives the codes of a cell's children behind another code. The loop's invariant: the codes collected, with those
+-- that check has yet to tell behind them, are all of them. Assumes nothing.
 use mathlib.Core.Path.{◌≡◌, refl}
 use mathlib.Core.Bool.{true, false, cond}
 use mathlib.Core.List.{List, [], ◌∷◌, ◌++◌}
 use Prim.Native.Nat.{ℕ, zero, suc, ◌+◌, ◌≤◌}
 use native.Mathlib.Omega.{arith}
-use lib.ListN.{length, take}
+use lib.ListN.{length}
 use lib.IntN.{ℤ}
 use lib.Dec.{eqb}
 use Rattle.numbers.specs.Stored.{plus_at}
@@ -32,11 +32,10 @@ module _ (check : List ℤ) (b s : ℕ) where
     unfolding codes_at
     codes_no t = rw (e, rw e at t)
 
--- The n codes written, with those up to k behind them.
-pub record Underway (check : List ℤ) (b s c : ℕ) (codes : List ℕ) (n k : ℕ) : Type 0 where
-  pub long : length codes ≡ GREATEST + 1
-  pub few : n + k ≤ GREATEST + 1
-  pub all : take n codes ++ codes_at check b s k ≡ c ∷ codes_at check b s GREATEST
+-- The codes collected, with those up to k behind them.
+pub record Underway (check : List ℤ) (b s c : ℕ) (codes : List ℕ) (k : ℕ) : Type 0 where
+  pub few : length codes + k ≤ GREATEST + 1
+  pub all : codes ++ codes_at check b s k ≡ c ∷ codes_at check b s GREATEST
 
 abbrev pub invariant-loop-k : goal.invariant-loop-k
-invariant-loop-k l = Underway l.check l.b l.s.0 l.c l.codes l.n l.k
+invariant-loop-k l = Underway l.check l.b l.s.0 l.c l.codes l.k
