@@ -2,7 +2,7 @@
 -- Assumes nothing.
 use mathlib.Core.Path.{◌≡◌, refl, sym, ap, ◌∙◌}
 use mathlib.Core.Logic.{◌≢◌}
-use mathlib.Core.List.{List}
+use mathlib.Core.List.{List, ◌∷◌}
 use Prim.Native.Nat.{ℕ, suc, ◌+◌, ◌-◌, ◌≤◌, ◌<◌}
 use native.Mathlib.Nat.{zero-add, sub-zero}
 use native.Mathlib.Omega.{arith}
@@ -24,8 +24,8 @@ use Rattle.tree.proofs.StepsTaken.{steps_ended, steps_onward}
 use Rattle.placing.specs.Search.{Codes}
 use Rattle.cells.specs.Edits.{Shown, celled}
 use Rattle.cells.proofs.Shown.{shown_small, shown_base, shown_parent}
-use Rattle.moving.specs.Children.{Collects, Collected, Relocates}
-use Rattle.moving.proofs.Collected.{collected_behind}
+use Rattle.std.proofs.lemmas.List.{take_rest}
+use Rattle.moving.specs.Children.{Collects, Relocates}
 use Rattle.compaction.specs.Lowering.{Steps, LowersChildren, Moved, lowering}
 
 -- ---- one step
@@ -68,17 +68,16 @@ module _ {base check : List ℤ} {t : Table} (a : Steps base check t) {u : ℕ} 
     based : 1 ≤ (t.cells s).base
     based = rw owner_is (top_sits a.whole below).step.based
 
-    pub lower_collects : {codes : List ℕ} → length codes ≡ GREATEST + 1 → Collects base check s codes t
-    lower_collects room = record {
+    pub lower_collects : Collects base check s t
+    lower_collects = record {
       shown = a.shown;
       some = based_pos a.whole.tree s based;
       inside = based_inside a.whole.tree s based;
       based = based;
-      room = room;
     }
 
-    pub lowers : {c : ℕ} {codes : List ℕ} {n : ℕ} → Collected t.cells s c codes n → LowersChildren base check s (take (n - 1) (drop 1 codes)) t
-    lowers w = record { steps = a; below = below; owner_is = owner_is; codes_are = collected_behind w }
+    pub lowers : {c : ℕ} {codes : List ℕ} → codes ≡ c ∷ child_codes t.cells s GREATEST → LowersChildren base check s (take (length codes - 1) (drop 1 codes)) t
+    lowers {codes = codes} e = record { steps = a; below = below; owner_is = owner_is; codes_are = take_rest codes 1 ∙ ap (drop 1) e }
 
 -- ---- its parent's children
 

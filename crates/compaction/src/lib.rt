@@ -43,9 +43,8 @@ fn lower(base: &mut [i32], check: &mut [i32]) -> bool
         return false;
     }
     let s = numbers::at::<Plus>(check, top.0);
-    let mut codes = [0; Alphabet::GREATEST + 1];
-    let n = moving::collect(base, check, Cell(s), Alphabet::END, &mut codes);
-    lower_children(base, check, Cell(s), &codes[1..n])
+    let codes = moving::collect(base, check, Cell(s), Alphabet::END);
+    lower_children(base, check, Cell(s), &codes.as_slice()[1..])
 }
 
 // The children of s, whose codes these are, move to their placed base if that is smaller than the base held.

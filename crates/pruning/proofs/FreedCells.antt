@@ -4,7 +4,7 @@ use mathlib.Core.Path.{◌≡◌, sym, ap, ◌∙◌}
 use mathlib.Core.Logic.{◌≢◌, ⊎_elim}
 use mathlib.Core.Bool.{Bool, true, false}
 use mathlib.Core.List.{List, [], ◌∷◌}
-use Prim.Native.Nat.{ℕ, ◌+◌, ◌-◌}
+use Prim.Native.Nat.{ℕ, suc, ◌-◌}
 use native.Mathlib.Omega.{arith}
 use lib.ListN.{length, drop}
 use lib.IntN.{ℤ}
@@ -24,24 +24,24 @@ use Rattle.tree.proofs.ChildCodes.{childless_codes}
 use Rattle.tree.proofs.Pruning.{prune_stays, prune_root, prune_onward, parent_stays, parent_based, less_tree, root_fit}
 use Rattle.cells.specs.Edits.{Shown, EveryTable, celled, holding, Releases}
 use Rattle.cells.proofs.Shown.{shown_parent}
-use Rattle.moving.specs.Children.{Relocates, Collects, Collected}
+use Rattle.moving.specs.Children.{Relocates, Collects}
 use Rattle.pruning.specs.Parents.{Looks, Prunes}
 
 -- ---- whether it has a child
 
-pub looks_collects : {base check : List ℤ} {s : ℕ} {t : Table} → Looks base check s t →
-    {codes : List ℕ} → length codes ≡ GREATEST + 1 → Collects base check s codes t
-looks_collects l room = record { shown = l.shown; some = l.some; inside = l.inside; based = l.based; room = room }
+pub looks_collects : {base check : List ℤ} {s : ℕ} {t : Table} → Looks base check s t → Collects base check s t
+looks_collects l = record { shown = l.shown; some = l.some; inside = l.inside; based = l.based }
 
 -- It has none where the code written before those of its children is the only one.
-pub collected_childless : {T : Cells} {s c : ℕ} {codes : List ℕ} {n : ℕ} → Collected T s c codes n → eqb n 1 ≡ childless T s GREATEST
+pub collected_childless : (T : Cells) (s : ℕ) {c : ℕ} {codes : List ℕ} → codes ≡ c ∷ child_codes T s GREATEST → eqb (length codes) 1 ≡ childless T s GREATEST
 unfolding childless
-collected_childless {T} {s} {n = n} w =
-    let codes = child_codes T s GREATEST in
+collected_childless T s {codes = codes} e =
+    let children = child_codes T s GREATEST in
+    let more : length codes ≡ suc (length children) = ap length e in
     ⊎_elim
-    (λ e. eq-eqb n 1 (omega (arith, w.count)) ∙ sym (eq-eqb (length codes) 0 e))
-    (λ d. ne_eqb n 1 (λ e. d (omega (arith, w.count))) ∙ sym (ne_eqb (length codes) 0 d))
-    (same? (length codes) 0)
+    (λ z. eq-eqb (length codes) 1 (omega (arith, more)) ∙ sym (eq-eqb (length children) 0 z))
+    (λ d. ne_eqb (length codes) 1 (λ z. d (omega (arith, more))) ∙ sym (ne_eqb (length children) 0 d))
+    (same? (length children) 0)
 
 module _ {base check : List ℤ} {u depth : ℕ} {path : List ℕ} {t : Table} (p : Prunes base check u depth path t) where
   pub prune_looks : Looks base check u t

@@ -34,7 +34,7 @@ fn is_childless(base: &[i32], check: &[i32], s: Cell) -> bool
     requires { SomeTable (Looks base.now check.now s.0) }
     ensures { EveryTable (Looks base.now check.now s.0) (λ t. result ≡ childless t.cells s.0 GREATEST) }
 {
-    let mut codes = [0; Alphabet::GREATEST + 1];
     // Behind the end mark stand the codes of its children.
-    moving::collect(base, check, s, Alphabet::END, &mut codes) == 1
+    let codes = moving::collect(base, check, s, Alphabet::END);
+    codes.as_slice().len() == 1
 }
