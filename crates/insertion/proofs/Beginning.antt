@@ -10,7 +10,7 @@ use borrow.Author.Tests.{lt-ltb}
 use Rattle.std.specs.Prelude.{Option, Some, None, Err}
 use Rattle.rules.specs.declared.Refusal.TheVariants.{NoRoom, Present}
 use Rattle.rules.specs.declared.Row.{Row}
-use Rattle.rules.specs.Answers.{Answer, counted, present}
+use Rattle.rules.specs.Answers.{Answer, counted}
 use Rattle.rules.specs.WhatTheIndexDoes.{document01, coded, last_cell}
 use Rattle.rules.specs.Table.{Table, lookup}
 use Rattle.rules.specs.Rendering.{chained, read_cells, read_table}

@@ -2,27 +2,26 @@
 use mathlib.Core.Path.{◌≡◌, refl, ap₂, ◌∙◌, subst}
 use mathlib.Core.Logic.{◌≢◌}
 use mathlib.Core.Bool.{Bool, true, false, ◌||◌, or-true}
-use mathlib.Core.List.{List}
+use mathlib.Core.List.{List, ◌∷◌}
 use Prim.Native.Nat.{ℕ, ◌+◌, ◌≤◌, ◌<◌}
 use native.Mathlib.Omega.{arith}
-use lib.ListN.{length, take}
+use lib.ListN.{length}
 use lib.IntN.{ℤ}
 use lib.Dec.{ltb}
 use borrow.Author.Tests.{lt-ltb, le-ltb}
 use Rattle.numbers.specs.Stored.{plus_at}
-use Rattle.std.specs.Prelude.{Result, Ok, Err}
+use Rattle.std.specs.Prelude.{Ok, Err}
 use Rattle.rules.specs.declared.Refusal.{Refusal}
-use Rattle.rules.specs.declared.Refusal.TheVariants.{NoRoom}
 use Rattle.rules.specs.Answers.{Answer, counted}
 use Rattle.rules.specs.WhatTheIndexDoes.{GREATEST, document01, last_cell}
-use Rattle.rules.specs.Table.{Cells, Table, used}
+use Rattle.rules.specs.Table.{child_codes, Cells, Table, used}
 use Rattle.rules.specs.Insertion.{extend}
 use Rattle.rules.proofs.Lengths.{lengths_within}
 use Rattle.tree.specs.Labels.{first_label, further_labels}
 use Rattle.tree.proofs.UsedCells.{parent_used, parentless_unused}
 use Rattle.tree.proofs.Trees.{based_pos, based_inside}
 use Rattle.tree.proofs.Branches.{grow_count}
-use Rattle.moving.specs.Children.{Collects, Collected}
+use Rattle.moving.specs.Children.{Collects}
 use Rattle.growing.specs.Branches.{growth, Grows, Grown}
 use Rattle.insertion.specs.Inserting.{collision, extension, Extends, PlacesAnew, Extended}
 use Rattle.cells.proofs.Shown.{shown_base, shown_parent}
@@ -39,17 +38,16 @@ module _ {base check : List ℤ} {s : ℕ} {rest : List ℕ} {row : ℕ} {t : Ta
   pub s_inside : s ≤ t.size
   s_inside = based_inside e.tree s e.based
 
-  pub collects : {codes : List ℕ} → length codes ≡ GREATEST + 1 → Collects base check s codes t
-  collects room = record {
+  pub collects : Collects base check s t
+  collects = record {
     shown = e.shown;
     some = based_pos e.tree s e.based;
     inside = s_inside;
     based = e.based;
-    room = room;
   }
 
-  pub anew : {d : ℕ} → d ≡ c → {codes : List ℕ} {n : ℕ} → Collected T s d codes n → PlacesAnew base check s rest row (take n codes) t
-  anew is w = record { extends = e; codes_are = rw (← is) w.front }
+  pub anew : {d : ℕ} → d ≡ c → {codes : List ℕ} → codes ≡ d ∷ child_codes T s GREATEST → PlacesAnew base check s rest row codes t
+  anew is w = record { extends = e; codes_are = rw (← is) w }
 
   -- ---- the cell of the first label
 

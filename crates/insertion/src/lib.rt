@@ -13,7 +13,7 @@ ghost use Rattle.insertion.specs.Inserting.{Inserts, Extends, PlacesAnew, MovesA
 
 use finding::Reached;
 use numbers::Plus;
-use rules::{Alphabet, Answer, Arrays, Cell, Done, Refusal, Row};
+use rules::{Answer, Arrays, Cell, Done, Refusal, Row};
 
 // Inserts an identifier: PRESENT, NO ROOM, or done with the number of children that changed cell.
 pub fn insert(base: &mut [i32], check: &mut [i32], key: &[u8], row: Row) -> Answer
@@ -47,9 +47,8 @@ fn collide(base: &mut [i32], check: &mut [i32], s: Cell, rest: &[u8], row: Row) 
     requires { SomeTable (Extends base.old check.old s.0 rest.now row.0) }
     ensures { EveryTable (Extends base.old check.old s.0 rest.now row.0) (λ t. Extended (collision (last_cell base.old) t s.0 rest.now row.0) t result base.new check.new) }
 {
-    let mut codes = [0; Alphabet::GREATEST + 1];
-    let n = moving::collect(base, check, s, growing::label(rest), &mut codes);
-    place_anew(base, check, s, rest, row, &codes[..n])
+    let codes = moving::collect(base, check, s, growing::label(rest));
+    place_anew(base, check, s, rest, row, codes.as_slice())
 }
 
 // Seeks the base for these codes: the new one and behind it those of the children of s. The base has to fit.

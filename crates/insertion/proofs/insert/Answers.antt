@@ -1,5 +1,4 @@
 -- `insert` looks the identifier up; it answers PRESENT, or extends the table at the node where the walk stopped. Assumes nothing.
-use native.Mathlib.Omega.{arith}
 use Rattle.finding.proofs.KnownSound.{same_length, enough, few}
 use Rattle.insertion.proofs.Beginning.{is_present, extends, is_carried_out}
 use Rattle.insertion.proofs.insert.Goals as goal
