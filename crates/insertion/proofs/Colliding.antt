@@ -28,7 +28,7 @@ use Rattle.tree.proofs.ChildCodes.{children_inside}
 use Rattle.tree.proofs.Relocation.{codes_moved}
 use Rattle.tree.proofs.ThereAndBack.{fit_back, relocate_back}
 use Rattle.tree.proofs.Collisions.{collide_fit, collide_tree, collide_base, collide_place}
-use Rattle.cells.specs.Edits.{Shown, sized, celled, Widens, Shrinks}
+use Rattle.cells.specs.Edits.{Shown, EveryTable, sized, celled, Widens, Shrinks}
 use Rattle.moving.specs.Children.{Relocates}
 use Rattle.growing.specs.Branches.{growth, Grows, Grown}
 use Rattle.insertion.specs.Inserting.{relocated, MovesAndGrows}
@@ -92,16 +92,16 @@ module _ {base check : List ℤ} {s : ℕ} {rest : List ℕ} {row q far : ℕ} {
   came_back : {b : ℕ} → b ≡ plus_at base s → relocate R s b ≡ T
   came_back e = rw (base_read e) (relocate_back tree s q fit)
 
-  -- ---- what is asked
+  -- ---- there
 
   pub widens : Widens base check far t
   widens = record { shown = m.extends.shown; fits = m.fits }
 
-  module _ {base' check' : List ℤ} where
+  module _ {base₁ check₁ : List ℤ} (widened : EveryTable (Widens base check far) (λ t. Shown base₁ check₁ (sized t (max t.size far)))) where
     -- The children are to move to base q.
-    pub there : Shown base' check' (sized t wide) → Relocates base' check' s q codes (sized t wide)
-    there shown = record {
-      shown = shown;
+    pub there : Relocates base₁ check₁ s q codes (sized t wide)
+    there = record {
+      shown = widened t widens;
       tree = tree_sized tree wide (omega (arith, tree.some)) (λ u h. omega (arith, tree.inside u h));
       fit = fit;
       small = omega (arith, m.far_is, m.fits, (lengths_within base check m.extends.shown.lengths).1);
@@ -109,63 +109,65 @@ module _ {base check : List ℤ} {s : ℕ} {rest : List ℕ} {row q far : ℕ} {
       inside = codes_inside;
     }
 
-    -- The rest is to grow from s.
-    pub grows : length base' ≡ length base → Shown base' check' (relocated t s q far) → Grows base' check' s rest row (relocated t s q far)
-    grows len shown = record {
-      leads = record {
-        shown = shown;
-        some = based_pos tree s m.extends.based;
-        inside = omega (arith, s_inside m.extends);
-        based = rw base_then_lem fit.new;
-        unused = cell_then;
-        fits = let within = (lengths_within base check m.extends.shown.lengths).0 in
-            omega (arith, base_then_lem, m.far_is, m.fits, among_greatest (c ∷ codes) c (inl refl));
-      };
-      row_is = m.extends.row_is;
-    }
+    module _ {base₂ check₂ : List ℤ} (long : length base₂ ≡ length base)
+        (moved : EveryTable (Relocates base₁ check₁ s q codes) (λ t. Shown base₂ check₂ (celled t (relocate t.cells s q)))) where
+      -- The rest is to grow from s.
+      pub grows : Grows base₂ check₂ s rest row (relocated t s q far)
+      grows = record {
+        leads = record {
+          shown = moved _ there;
+          some = based_pos tree s m.extends.based;
+          inside = omega (arith, s_inside m.extends);
+          based = rw base_then_lem fit.new;
+          unused = cell_then;
+          fits = let within = (lengths_within base check m.extends.shown.lengths).0 in
+              omega (arith, base_then_lem, m.far_is, m.fits, among_greatest (c ∷ codes) c (inl refl));
+        };
+        row_is = m.extends.row_is;
+      }
 
-    -- The children are to move back.
-    pub back : {b : ℕ} → b ≡ plus_at base s → Shown base' check' (relocated t s q far) → Relocates base' check' s b codes (relocated t s q far)
-    unfolding relocate
-    back e shown = record {
-      shown = shown;
-      tree = tree_then;
-      fit = rw (base_then_lem, base_read e) (fit_back tree fit);
-      small = omega (arith, base_read e, m.extends.near, shown_small m.extends.shown);
-      codes_are = codes_then;
-      inside = λ d a. omega (arith, base_read e, old_inside d a);
-    }
+      module _ {r : Result (Unit {0}) Refusal} {base₃ check₃ : List ℤ}
+          (grew : EveryTable (Grows base₂ check₂ s rest row) (λ t. Grown (growth (last_cell base₂) t s rest row) t r base₃ check₃)) where
+        -- The course of the rest, from where the children are.
+        abbrev course : Course
+        course = growth (last_cell base) (relocated t s q far) s rest row
 
-    -- The size is to fall to what it was.
-    pub shrinks : {b n : ℕ} → b ≡ plus_at base s → n ≡ plus_at base 0 → Shown base' check' (celled (sized t wide) (relocate R s b)) →
-        Shrinks base' check' n (sized t wide)
-    shrinks e f shown = record {
-      shown = rw (came_back e) at shown;
-      some = omega (arith, f, shown_size m.extends.shown, tree.some);
-      less = omega (arith, f, shown_size m.extends.shown);
-      past = λ u h. past_unused tree u (omega (arith, f, shown_size m.extends.shown));
-    }
+        grown : Grown course (relocated t s q far) r base₃ check₃
+        grown = rw (← long) (grew _ grows)
 
-  -- ---- what is left
+        pub all_fit : is_err r ≡ false → Grown course t r base₃ check₃
+        all_fit e = record { fitted = grown.fitted; left = let (f, shown) = fits_left grown e in rw f shown }
 
-  -- The course of the rest, from where the children are.
-  abbrev course : ℕ → Course
-  course last = growth last (relocated t s q far) s rest row
+        -- ---- and back, where a later label does not fit
 
-  module _ {base' check' : List ℤ} {r : Result (Unit {0}) Refusal} (base₁ : List ℤ) (long : length base₁ ≡ length base)
-      (f : Grown (course (last_cell base₁)) (relocated t s q far) r base' check') where
-    g : Grown (course (last_cell base)) (relocated t s q far) r base' check'
-    g = rw (← long) f
+        module _ (unfit : is_err r ≡ true) {b : ℕ} (was : b ≡ plus_at base s) where
+          -- The children are to move back.
+          pub back : Relocates base₃ check₃ s b codes (relocated t s q far)
+          unfolding relocate
+          back = record {
+            shown = (unfit_left grown unfit).1;
+            tree = tree_then;
+            fit = rw (base_then_lem, base_read was) (fit_back tree fit);
+            small = omega (arith, base_read was, m.extends.near, shown_small m.extends.shown);
+            codes_are = codes_then;
+            inside = λ d a. omega (arith, base_read was, old_inside d a);
+          }
 
-    pub all_fit : is_err r ≡ false → Grown (course (last_cell base)) t r base' check'
-    all_fit e = record { fitted = g.fitted; left = let (f, shown) = fits_left g e in rw f shown }
+          module _ {base₄ check₄ : List ℤ}
+              (again : EveryTable (Relocates base₃ check₃ s b codes) (λ t. Shown base₄ check₄ (celled t (relocate t.cells s b))))
+              {n : ℕ} (held : n ≡ plus_at base 0) where
+            size_is : n ≡ size
+            size_is = held ∙ shown_size m.extends.shown
 
-    pub moved_still : is_err r ≡ true → Shown base' check' (relocated t s q far)
-    moved_still e = (unfit_left g e).1
+            -- The size is to fall to what it was.
+            pub shrinks : Shrinks base₄ check₄ n (sized t wide)
+            shrinks = record {
+              shown = rw (came_back was) at (again _ back);
+              some = omega (arith, size_is, tree.some);
+              less = omega (arith, size_is);
+              past = λ u h. past_unused tree u (omega (arith, size_is));
+            }
 
-    pub all_back : is_err r ≡ true → {n : ℕ} → n ≡ plus_at base 0 → {base'' check'' : List ℤ} → Shown base'' check'' (sized t n) →
-        Grown (course (last_cell base)) t r base'' check''
-    all_back e is shown = record {
-      fitted = g.fitted;
-      left = rw (unfit_left g e).0 (rw (is ∙ shown_size m.extends.shown) at shown);
-    }
+            pub all_back : {base₅ check₅ : List ℤ} → EveryTable (Shrinks base₄ check₄ n) (λ t. Shown base₅ check₅ (sized t n)) →
+                Grown course t r base₅ check₅
+            all_back f = record { fitted = grown.fitted; left = rw (unfit_left grown unfit).0 (rw size_is at (f _ shrinks)) }

@@ -21,6 +21,7 @@ use Rattle.tree.specs.Labels.{first_label, further_labels}
 use Rattle.tree.proofs.UsedCells.{parent_used, parentless_unused}
 use Rattle.tree.proofs.Trees.{based_pos, based_inside}
 use Rattle.tree.proofs.Branches.{grow_count}
+use Rattle.cells.specs.Edits.{EveryTable}
 use Rattle.moving.specs.Children.{Collects}
 use Rattle.growing.specs.Branches.{growth, Grows, Grown}
 use Rattle.insertion.specs.Inserting.{collision, extension, Extends, PlacesAnew, Extended}
@@ -113,13 +114,17 @@ module _ {base check : List ℤ} {s : ℕ} {rest : List ℕ} {row : ℕ} {t : Ta
       }
 
       module _ {base' check' : List ℤ} where
-        pub grown_done : {x : Unit {0}} → Grown (growth (last_cell base) t s rest row) t (Ok x) base' check' →
+        pub grown_done : {x : Unit {0}} →
+            EveryTable (Grows base check s rest row) (λ t. Grown (growth (last_cell base) t s rest row) t (Ok x) base' check') →
             Extended (extension (last_cell base) t s rest row) t (counted 0) base' check'
-        grown_done g =
-            let (f, shown) = fits_left g refl in
+        grown_done f =
+            let (fitted, shown) = fits_left (f t grows) refl in
             let none = grow_count (last_cell base) T t.size s c (further_labels document01 rest) row in
-            rw is_plain (subst (λ n. Extended (growth (last_cell base) t s rest row) t (counted n) base' check') none (done f shown))
+            rw is_plain (subst (λ n. Extended (growth (last_cell base) t s rest row) t (counted n) base' check') none (done fitted shown))
 
-        pub grown_none : {x : Refusal} → Grown (growth (last_cell base) t s rest row) t (Err x) base' check' →
+        pub grown_none : {x : Refusal} →
+            EveryTable (Grows base check s rest row) (λ t. Grown (growth (last_cell base) t s rest row) t (Err x) base' check') →
             Extended (extension (last_cell base) t s rest row) t (Err x) base' check'
-        grown_none g = let (f, shown) = unfit_left g refl in rw (is_plain, unfit_says g) (no_room f shown)
+        grown_none f =
+            let (unfitted, shown) = unfit_left (f t grows) refl in
+            rw (is_plain, unfit_says (f t grows)) (no_room unfitted shown)

@@ -28,6 +28,7 @@ use Rattle.tree.proofs.Labels.{label_high}
 use Rattle.tree.proofs.Trees.{past_unused}
 use Rattle.tree.proofs.Placement.{greatest_within, placed_within}
 use Rattle.tree.proofs.ChildCodes.{codes_lead}
+use Rattle.cells.specs.Edits.{EveryTable}
 use Rattle.placing.specs.Search.{Codes}
 use Rattle.growing.specs.Branches.{growth, Grown}
 use Rattle.insertion.specs.Inserting.{collision, relocated, PlacesAnew, MovesAndGrows, Extended}
@@ -121,12 +122,20 @@ module _ {base check : List ℤ} {s : ℕ} {rest : List ℕ} {row : ℕ} {codes 
         fitted_on : (collision (last_cell base) t s rest row).fitted ≡ on.fitted
         fitted_on = collision_fitted ∙ rw (le-leb far (last_cell base) h) refl
 
-        pub all_placed : {base' check' : List ℤ} {x : Unit {0}} → Grown on t (Ok x) base' check' →
-            Extended (collision (last_cell base) t s rest row) t (counted (length codes - 1)) base' check'
-        all_placed {base' = base'} {check' = check'} g =
-            let (f, shown) = fits_left g refl in
-            subst (λ n. Extended (collision (last_cell base) t s rest row) t (counted n) base' check') collision_count (done (fitted_on ∙ f) (rw collision_table shown))
+        -- What the move and the growth leave, with the answer r.
+        abbrev Moves : Result (Unit {0}) Refusal → List ℤ → List ℤ → Type 0
+        Moves r base' check' = EveryTable (MovesAndGrows base check s rest row q far (behind codes))
+            (λ t. Grown (growth (last_cell base) (relocated t s q far) s rest row) t r base' check')
 
-        pub not_placed : {base' check' : List ℤ} {x : Refusal} → Grown on t (Err x) base' check' →
-            Extended (collision (last_cell base) t s rest row) t (Err x) base' check'
-        not_placed g = let (f, shown) = unfit_left g refl in rw (unfit_says g) (no_room (fitted_on ∙ f) shown)
+        module _ {base' check' : List ℤ} where
+          pub all_placed : {x : Unit {0}} → Moves (Ok x) base' check' →
+              Extended (collision (last_cell base) t s rest row) t (counted (length codes - 1)) base' check'
+          all_placed f =
+              let (fitted, shown) = fits_left (f t (moves h)) refl in
+              subst (λ n. Extended (collision (last_cell base) t s rest row) t (counted n) base' check') collision_count (done (fitted_on ∙ fitted) (rw collision_table shown))
+
+          pub not_placed : {x : Refusal} → Moves (Err x) base' check' →
+              Extended (collision (last_cell base) t s rest row) t (Err x) base' check'
+          not_placed f =
+              let (unfitted, shown) = unfit_left (f t (moves h)) refl in
+              rw (unfit_says (f t (moves h))) (no_room (fitted_on ∙ unfitted) shown)

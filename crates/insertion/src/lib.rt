@@ -74,6 +74,7 @@ fn place_anew(
 
 // The children of s, whose codes these are, move to base q, and the rest grows from there. Where a later label does not fit, they
 // go back to where they were: NO ROOM.
+// By hand: eight parameters. Its contract speaks of each of them by itself, so that a struct would only be taken apart again.
 fn move_and_grow(
     base: &mut [i32],
     check: &mut [i32],

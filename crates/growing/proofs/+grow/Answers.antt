@@ -5,9 +5,6 @@ use native.Mathlib.Omega.{arith}
 use Rattle.growing.proofs.Growing.{grow_ended, grow_retracts, placed_small, grow_past, grow_onward, grow_fitted, grow_gives_up, grow_unfitted}
 use Rattle.growing.proofs.+grow.Goals as goal
 
-pub put_row-requires : goal.put_row-requires
-put_row-requires n c = let (t, a) = c.requires in a.row_is
-
 pub returns-in_default : goal.returns-in_default
 returns-in_default n c = λ t a. grow_ended a (c.claim_first-u.ensures t a.leads) c.in_default.ensures.cases c.put_row.ensures
 

@@ -28,9 +28,6 @@ module _ {base check : List ℤ} {u n : ℕ} {t : Table} (r : Retracts base chec
         (λ h. rw (ne_eqb u 1 (λ e. omega (arith, r.far)))) (λ v d h. r.past v h d);
   }
 
-pub release-requires : goal.release-requires
-release-requires c = let (t, r) = c.requires in (t, releases r)
-
 pub shrink-requires : goal.shrink-requires
 shrink-requires c =
     let (t, r) = c.requires in

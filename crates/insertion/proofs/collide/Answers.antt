@@ -3,9 +3,6 @@ use mathlib.Core.Path.{◌∙◌}
 use Rattle.insertion.proofs.Extending.{collects, anew}
 use Rattle.insertion.proofs.collide.Goals as goal
 
-pub collect-codes-requires : goal.collect-codes-requires
-collect-codes-requires c = let (t, e) = c.requires in (t, collects e)
-
 pub place_anew-requires : goal.place_anew-requires
 place_anew-requires c =
     let (t, e) = c.requires in

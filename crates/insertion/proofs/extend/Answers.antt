@@ -20,10 +20,8 @@ grow-requires c =
 pub returns-in_err-grow : goal.returns-in_err-grow
 returns-in_err-grow c = λ t e.
     let p = err_from_is_err_and c.from_residual.result c.from_residual.ensures.1 in
-    let asked = grows e c.at.ensures.is c.label.ensures.is c.if-base-u.false c.at-else-base-u.ensures.is c.if-at-gt0.false in
-    rw (p.1, p.2) (grown_none e c.at.ensures.is c.label.ensures.is c.if-base-u.false c.at-else-base-u.ensures.is c.if-at-gt0.false (c.in_err-grow.ensures t asked))
+    rw (p.1, p.2) (grown_none e c.at.ensures.is c.label.ensures.is c.if-base-u.false c.at-else-base-u.ensures.is c.if-at-gt0.false c.in_err-grow.ensures)
 
 pub returns : goal.returns
 returns c = λ t e.
-    let asked = grows e c.at.ensures.is c.label.ensures.is c.if-base-u.false c.at-else-base-u.ensures.is c.if-at-gt0.false in
-    grown_done e c.at.ensures.is c.label.ensures.is c.if-base-u.false c.at-else-base-u.ensures.is c.if-at-gt0.false (c.in_ok-grow.ensures t asked)
+    grown_done e c.at.ensures.is c.label.ensures.is c.if-base-u.false c.at-else-base-u.ensures.is c.if-at-gt0.false c.in_ok-grow.ensures

@@ -17,27 +17,18 @@ overflow_add-far c =
 pub returns-then-base-far : goal.returns-then-base-far
 returns-then-base-far c = λ t a. past_last a (finds_placed a.extends.shown (anew_codes a) c.place-q.ensures) c.greatest.ensures (omega arith)
 
-pub slice_bounds-move_and_grow-count : goal.slice_bounds-move_and_grow-count
-slice_bounds-move_and_grow-count c = let (t, a) = c.requires in omega (arith, (anew_codes a).some)
-
-pub slice_bounds-move_and_grow-start : goal.slice_bounds-move_and_grow-start
-slice_bounds-move_and_grow-start c = let (t, a) = c.requires in omega (arith, (anew_codes a).some)
-
 pub move_and_grow-requires : goal.move_and_grow-requires
 move_and_grow-requires c =
     let (t, a) = c.requires in
     (t, moves a (finds_placed a.extends.shown (anew_codes a) c.place-q.ensures) c.greatest.ensures (omega arith))
 
-pub overflow_sub-result : goal.overflow_sub-result
-overflow_sub-result c = let (t, a) = c.requires in omega (arith, (anew_codes a).some)
-
 pub returns-in_err-move_and_grow : goal.returns-in_err-move_and_grow
 returns-in_err-move_and_grow c = λ t a.
     let q = finds_placed a.extends.shown (anew_codes a) c.place-q.ensures in
     let p = err_from_is_err_and c.from_residual.result c.from_residual.ensures.1 in
-    rw (p.1, p.2) (not_placed a q c.greatest.ensures (omega arith) (c.in_err-move_and_grow.ensures t (moves a q c.greatest.ensures (omega arith))))
+    rw (p.1, p.2) (not_placed a q c.greatest.ensures (omega arith) c.in_err-move_and_grow.ensures)
 
 pub returns : goal.returns
 returns c = λ t a.
     let q = finds_placed a.extends.shown (anew_codes a) c.place-q.ensures in
-    all_placed a q c.greatest.ensures (omega arith) (c.in_ok-move_and_grow.ensures t (moves a q c.greatest.ensures (omega arith)))
+    all_placed a q c.greatest.ensures (omega arith) c.in_ok-move_and_grow.ensures
