@@ -54,11 +54,10 @@ hexes_step l key at i h = rw (add-one, drop-cons key i 0 h) (sets_then l _ _ (he
 -- ---- lines
 
 -- The four parts of a line, one after the other.
-pub line_parts : (l : List ℕ) (at : ℕ) (e : Entry) → let end = at + 2 + 2 * length e.key in
-    set (sets (sets (sets l at (hex 2 (length e.key))) (at + 2) (hexes e.key)) end (hex 8 e.row)) (end + 8) LF ≡
-    sets l at (line_of e)
+pub line_parts : (l : List ℕ) (e : Entry) → let end = 2 + 2 * length e.key in
+    set (sets (sets (sets l 0 (hex 2 (length e.key))) 2 (hexes e.key)) end (hex 8 e.row)) (end + 8) LF ≡ sets l 0 (line_of e)
 unfolding line_of
-line_parts l at e = simp (sets_append, length_hex, length_hexes)
+line_parts l e = simp (sets_append, length_hex, length_hexes)
 
 -- The three parts of an answer, one after the other.
 pub answer_parts : (l : List ℕ) (a : Answer) → set (sets (sets l 0 (hex 2 (number a))) 2 (hex 8 (value a))) 10 LF ≡ sets l 0 (answer_bytes a)

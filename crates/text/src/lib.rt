@@ -12,15 +12,15 @@ use rules::{Answer, Row};
 // What is read from a line.
 pub mod reading;
 
-// Writes a line of the listing from byte `at` on: the identifier's length, its characters, the row, line feed.
+// Writes a line of the listing at the front of the buffer: the identifier's length, its characters, the row, line feed.
 #[tactic(auto, using(rules::proofs::Digits::length_line, rules::proofs::Digits::length_hexes))]
-pub fn put_line(out: &mut [u8], at: usize, key: &[u8], row: Row)
-    requires { HasRoom out.old at (line_of (entry key.now row.0)) }
-    ensures { out.new ≡ sets out.old at (line_of (entry key.now row.0)) }
+pub fn put_line(out: &mut [u8], key: &[u8], row: Row)
+    requires { HasRoom out.old 0 (line_of (entry key.now row.0)) }
+    ensures { out.new ≡ sets out.old 0 (line_of (entry key.now row.0)) }
 {
-    let end = at + 2 + 2 * key.len();
-    put_hex(out, at, 2, key.len());
-    put_hexes(out, at + 2, key);
+    let end = 2 + 2 * key.len();
+    put_hex(out, 0, 2, key.len());
+    put_hexes(out, 2, key);
     put_hex(out, end, 8, row.0 as usize);
     out[end + 8] = b'\n';
 }
@@ -36,7 +36,8 @@ pub fn put_answer(out: &mut [u8], answer: Answer)
     out[10] = b'\n';
 }
 
-// Writes characters, 2 digits each.
+// Writes characters from byte `at` on, 2 digits each.
+// By hand: a place, and a number of digits, beside the buffer. As a part of it, `&mut out[at..at + k]`, each place would stand twice.
 #[tactic(auto, using(rules::proofs::Digits::length_hexes))]
 fn put_hexes(out: &mut [u8], at: usize, key: &[u8])
     requires { HasRoom out.old at (hexes key.now) }
@@ -47,7 +48,7 @@ fn put_hexes(out: &mut [u8], at: usize, key: &[u8])
     }
 }
 
-// Writes the last k hexadecimal digits of n, the last one first.
+// Writes the last k hexadecimal digits of n from byte `at` on, the last one first.
 pub fn put_hex(out: &mut [u8], at: usize, k: usize, n: usize)
     requires { at + k ≤ length out.old }
     ensures { out.new ≡ sets out.old at (hex k n) }

@@ -3,4 +3,4 @@ use Rattle.text.proofs.Hexadecimal.{line_parts}
 use Rattle.text.proofs.put_line.Goals as goal
 
 pub returns : goal.returns
-returns c = cc (line_parts _ _ _)
+returns c = cc (line_parts _ _)
