@@ -8,7 +8,7 @@ use native.Mathlib.Omega.{arith}
 use lib.ListN.{length, take, drop, take-append-drop}
 use lib.Seq.{sets-eq, length-take-le, take-take, take_at}
 use lib.IntN.{ℤ}
-use Rattle.rules.specs.declared.Answer.TheVariants.{Done}
+use Rattle.rules.specs.Answers.{counted}
 use Rattle.rules.specs.WhatTheIndexDoes.{document01, last_cell}
 use Rattle.rules.specs.Rendering.{chained, read_table}
 use Rattle.rules.specs.ARun.{sheet_lines, Answered, answered_lines}
@@ -28,7 +28,7 @@ use Rattle.parts.specs.Parts.{Cut, Carried, AnswersPart, behind, PartAnswered, S
 -- ---- what is written
 
 -- The count of an answer that is done.
-pub all_counted : {r n : ℕ} → Done r ≡ Done n → r ≡ n
+pub all_counted : {r n : ℕ} → counted r ≡ counted n → r ≡ n
 all_counted e = cc
 
 -- The answers to all lines stand at the front of the buffer.

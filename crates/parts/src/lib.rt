@@ -2,7 +2,6 @@
 // finished, is carried over to the front of the next part. However the sheet is cut into parts, its answers are the same.
 #![tactic(auto)]
 
-ghost use Rattle.std.specs.Prelude.{◌≡◌, min};
 ghost use Rattle.parts.specs.Parts.{Cut, Carries, Carried, AnswersPart, PartAnswered};
 
 // A line of so many bytes is longer than any well-formed one. No more of it is carried over, however long it is.
@@ -36,14 +35,7 @@ pub fn answer(
 fn cut(part: &[u8]) -> usize
     ensures { Cut part.now result }
 {
-    let mut end = part.len();
-    while 0 < end {
-        if part[end - 1] == b'\n' {
-            return end;
-        }
-        end -= 1;
-    }
-    0
+    part.iter().rposition(|&b| b == b'\n').map_or(0, |i| i + 1)
 }
 
 // Carries the bytes from one place up to another over to the front, or as many of them as make a line too long. Gives their number.
@@ -51,18 +43,7 @@ fn carry(buffer: &mut [u8], from: usize, to: usize) -> usize
     requires { Carries buffer.old from to }
     ensures { Carried buffer.old from to result buffer.new }
 {
-    let n = least(to - from, TOO_LONG);
-    let mut i = 0;
-    while i < n {
-        buffer[i] = buffer[from + i];
-        i += 1;
-    }
+    let n = (to - from).min(TOO_LONG);
+    buffer.copy_within(from..from + n, 0);
     n
-}
-
-// The smaller of two numbers.
-fn least(a: usize, b: usize) -> usize
-    ensures { result ≡ min a b }
-{
-    if a < b { a } else { b }
 }

@@ -1,6 +1,12 @@
--- `carry` moves byte after byte to the front. Assumes nothing.
-use Rattle.parts.proofs.Places.{all_carried}
+-- `carry` moves the bytes to the front at once. Assumes nothing.
+use mathlib.Core.Path.{ap, ◌∙◌}
+use Prim.Native.Nat.{ℕ}
+use native.Mathlib.Omega.{arith}
+use lib.ListN.{get_or}
+use Rattle.parts.proofs.Places.{carried}
 use Rattle.parts.proofs.carry.Goals as goal
 
 pub returns : goal.returns
-returns c = all_carried _ _ c.loop-i.invariant.1 c.requires c.loop-i.invariant.0 c.loop-i-test.false
+returns c =
+    carried _ _ c.args.from c.requires c.min-n.ensures c.copy_within.ensures.len
+    (λ k h. c.copy_within.ensures.by_index.0 k 0 (omega arith) (omega arith) ∙ ap (λ (i : ℕ). get_or c.args.buffer.now i 0) (omega arith))
