@@ -55,9 +55,6 @@ visit-returns-then-depth-eq0-clause-lists t c = visits_none c.requires refl (row
 
 -- ---- an inner cell
 
-pub visit-first_found-requires : goal.visit-first_found-requires
-visit-first_found-requires t c = c.loop-left.invariant.asked.labels
-
 pub visit-loop-left-init : goal.visit-loop-left-init
 visit-loop-left-init t c = trying_begins (inner_tries c.requires refl (row_none c.in_default.ensures) c.if-depth-eq0.false)
 
