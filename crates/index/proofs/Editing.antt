@@ -4,8 +4,9 @@ use mathlib.Core.Path.{◌≡◌, refl}
 use mathlib.Core.Bool.{Bool, true, false}
 use mathlib.Core.List.{List}
 use lib.IntN.{ℤ}
-use Rattle.rules.specs.declared.Answer.{Answer}
-use Rattle.rules.specs.declared.Answer.TheVariants.{Size, Key, Number, Damaged}
+use Rattle.std.specs.Prelude.{Err}
+use Rattle.rules.specs.declared.Refusal.TheVariants.{Size, Key, Number, Damaged}
+use Rattle.rules.specs.Answers.{Answer}
 use Rattle.rules.specs.WhatTheIndexDoes.{document01, right_lengths}
 use Rattle.rules.specs.ASoundTable.{sound}
 use Rattle.rules.specs.Rendering.{chained}
@@ -21,7 +22,7 @@ module _ (base check : List ℤ) (command : Command) where
   abbrev verdict : Bool
   verdict = sound document01 base check
 
-  pub edit_size : right_lengths base check ≡ false → call Size base check
+  pub edit_size : right_lengths base check ≡ false → call (Err Size) base check
   unfolding edit_call
   edit_size l = rw l (record { answer = refl; base_is = refl; check_is = refl })
 
@@ -30,15 +31,15 @@ module _ (base check : List ℤ) (command : Command) where
     unfolding edit_call
     past_size e = rw l e
 
-    pub edit_key : key_allowed document01 command ≡ false → call Key base check
+    pub edit_key : key_allowed document01 command ≡ false → call (Err Key) base check
     edit_key k = past_size (answered_key base check verdict command k)
 
     module _ (k : key_allowed document01 command ≡ true) where
-      pub edit_number : number_allowed command ≡ false → call Number base check
+      pub edit_number : number_allowed command ≡ false → call (Err Number) base check
       edit_number n = past_size (answered_number base check verdict command k n)
 
       module _ (n : number_allowed command ≡ true) where
-        pub edit_damaged : sound document01 base check ≡ false → call Damaged base check
+        pub edit_damaged : sound document01 base check ≡ false → call (Err Damaged) base check
         edit_damaged s = past_size (answered_damaged base check verdict command k n s)
 
         pub edit_sound : sound document01 base check ≡ true → {r : Answer} {base' check' : List ℤ} →
