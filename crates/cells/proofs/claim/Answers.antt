@@ -14,9 +14,6 @@ use Rattle.cells.proofs.claim.Goals as goal
 widens : {base check : List ℤ} {u s : ℕ} {t : Table} → Claims base check u s t → Widens base check u t
 widens a = record { shown = a.shown; fits = a.fits }
 
-pub widen-requires : goal.widen-requires
-widen-requires c = let (t, a) = c.requires in (t, widens a)
-
 pub prior-p-requires : goal.prior-p-requires
 prior-p-requires c =
     let (t, a) = c.requires in

@@ -19,9 +19,6 @@ module _ {check : List ℤ} {u p n : ℕ} (w : Underway check u p n) (l : n < u)
   named_farther : n < minus_at check n
   named_farther = (chain.link n (omega arith) named_on).after
 
-pub loop-n-init : goal.loop-n-init
-loop-n-init c = record { below = c.requires.some; on = λ m size chain h. chain.header; names = c.at-n.ensures.is }
-
 pub known-n-requires : goal.known-n-requires
 known-n-requires c =
     let l = c.loop-n in

@@ -44,17 +44,11 @@ loop-k-init c = record {
   shows = λ t h. rw add-zero (starts h c.at-b.ensures.is);
 }
 
-pub overflow_add-b : goal.overflow_add-b
-overflow_add-b c = omega (arith, c.at-b.ensures.small)
-
 pub is_at-requires : goal.is_at-requires
 is_at-requires c =
     let (t, h) = c.requires in
     let l = inside h c.at-b.ensures.is c.loop-k.invariant.some in
     (omega (arith, h.far), omega (arith, l, shown_small h.shown))
-
-pub overflow_add-b-then-is_at : goal.overflow_add-b-then-is_at
-overflow_add-b-then-is_at c = omega (arith, c.at-b.ensures.small)
 
 pub put-requires : goal.put-requires
 put-requires c =

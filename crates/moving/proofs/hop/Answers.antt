@@ -1,5 +1,5 @@
 -- `hop` takes what a cell holds to another: each of its calls is asked what the hop's steps have. Assumes nothing.
-use Rattle.std.proofs.Common.{◌≡◌, ℕ, List, get_or, set, arith, rules}
+use Rattle.std.proofs.Common.{◌≡◌, ℕ, List, get_or, set, rules}
 use lib.IntN.{ℤ}
 use mir.Syntax.{w32}
 use mir.Val.{SFits, to_z, of_z}
@@ -7,9 +7,8 @@ use mir.Facts.{to_z-of_z}
 use Rattle.numbers.specs.Stored.{positive, plus_at}
 use Rattle.rules.specs.Table.{Table}
 use Rattle.cells.specs.Edits.{Shown, EveryTable, claimed, Claims}
-use Rattle.cells.proofs.Shown.{shown_long, shown_small}
 use Rattle.moving.specs.Children.{Hops}
-use Rattle.moving.proofs.OneHop.{old_inside, Copied, Given, hop_claims, hop_copies, hop_hands, hop_releases, hop_is}
+use Rattle.moving.proofs.OneHop.{Copied, Given, hop_claims, hop_copies, hop_hands, hop_releases, hop_is}
 use Rattle.moving.proofs.hop.Goals as goal
 
 -- What claiming leaves, with the element old copied to new.
@@ -22,12 +21,6 @@ pub claim-requires : goal.claim-requires
 claim-requires c =
     let (t, h) = c.requires in
     (t, hop_claims h c.at-s.ensures.is)
-
-pub offset_bounds-base-old : goal.offset_bounds-base-old
-offset_bounds-base-old c = let (t, h) = c.requires in omega (arith, old_inside h, shown_small h.shown)
-
-pub slice_copy_out-base : goal.slice_copy_out-base
-slice_copy_out-base c = let (t, h) = c.requires in omega (arith, c.claim.auto.base, old_inside h, shown_long h.shown)
 
 -- ---- what old holds is copied, then its children are handed over, then it is released
 

@@ -74,8 +74,5 @@ pub loop-code-preserved : goal.loop-code-preserved
 loop-code-preserved c =
     leaves c.loop-code.invariant _ _ c.in-Some.ensures.steps c.at-b.ensures.is c.hop.auto.base c.hop.ensures
 
-pub put-requires : goal.put-requires
-put-requires c = let (t, h) = c.requires in omega (arith, h.small)
-
 pub returns : goal.returns
 returns c t h = rw c.put.ensures (ends c.loop-code.invariant c.in-None.ensures.steps.0 t h)
