@@ -3,7 +3,7 @@ use mathlib.Core.Path.{◌≡◌, refl, sym, ap, ◌∙◌}
 use mathlib.Core.Bool.{Bool, true, false}
 use mathlib.Core.List.{List}
 use lib.IntN.{ℤ}
-use Rattle.std.specs.Prelude.{Result, Ok, Err}
+use Rattle.std.specs.Prelude.{Result, Err}
 use Rattle.std.specs.Result.{is_err}
 use Rattle.rules.specs.declared.Refusal.{Refusal}
 use Rattle.rules.specs.declared.Refusal.TheVariants.{NoRoom}
@@ -21,8 +21,6 @@ room_lacks true e = sym e
 room_lacks false e = refl
 
 module _ {course : Course} {t : Table} {base check : List ℤ} where
-  -- ---- what a growth said
-
   module _ {r : Result (Unit {0}) Refusal} (g : Grown course t r base check) where
     pub fits_left : is_err r ≡ false → (course.fitted ≡ true) × Shown base check course.table
     fits_left e = let f = room_fits course.fitted (ap is_err (sym g.fitted) ∙ e) in (f, rw f at g.left)
@@ -32,11 +30,3 @@ module _ {course : Course} {t : Table} {base check : List ℤ} where
 
   pub unfit_says : {x : Refusal} → Grown course t (Err x) base check → x ≡ NoRoom
   unfit_says g = let e = g.fitted ∙ ap room (unfit_left g refl).0 in cc
-
-  -- ---- what is said of a course
-
-  pub left_fits : course.fitted ≡ true → Shown base check course.table → Grown course t (Ok tt) base check
-  left_fits f s = record { fitted = rw f; left = rw f s }
-
-  pub left_unfit : course.fitted ≡ false → Shown base check t → Grown course t (Err NoRoom) base check
-  left_unfit f s = record { fitted = rw f; left = rw f s }

@@ -3,7 +3,7 @@
 use mathlib.Core.Path.{◌≡◌, refl, sym, ◌∙◌}
 use mathlib.Core.Bool.{Bool, true, false, cond}
 use mathlib.Core.List.{List}
-use Prim.Native.Nat.{ℕ, ◌-◌, ◌≤◌}
+use Prim.Native.Nat.{ℕ, ◌-◌}
 use lib.ListN.{length, take, drop}
 use lib.IntN.{ℤ}
 use borrow.Author.Tests.{lt-ltb}
@@ -13,7 +13,7 @@ use Rattle.rules.specs.declared.Row.{Row}
 use Rattle.rules.specs.Answers.{Answer, counted}
 use Rattle.rules.specs.WhatTheIndexDoes.{document01, coded, last_cell}
 use Rattle.rules.specs.Table.{Table, lookup}
-use Rattle.rules.specs.Rendering.{chained, read_cells, read_table}
+use Rattle.rules.specs.Rendering.{chained, read_table}
 use Rattle.rules.specs.Finding.{leaf_at, row_found}
 use Rattle.rules.specs.Insertion.{Course, inserted}
 use Rattle.rules.specs.Commands.{Outcome, insert, carried_out}
@@ -61,9 +61,6 @@ module _ {base check : List ℤ} {key : List ℕ} {row : ℕ} (i : Inserts base 
     -- ---- the identifier is not live
 
     module _ (z : held ≡ None) where
-      held_is : lookup document01 (read_cells base check) key ≡ 0
-      held_is = none_held base check i.whole key i.identifier w z
-
       stops : Stops renders (last_cell base) row 1 key (record { cell = cell; met = met })
       unfolding read_table row_found leaf_at
       stops = rw (reached_is (w.walked.reaches coded_key)) (walk_begins renders document01_round_trip (last_cell base) row 1 key coded_key renders.table.tree.root_base
@@ -71,9 +68,6 @@ module _ {base check : List ℤ} {key : List ℕ} {row : ℕ} (i : Inserts base 
 
       abbrev rest : List ℕ
       rest = take (length key - met) (drop met key)
-
-      pub met_within : met ≤ length key
-      met_within = stops.some
 
       pub extends : Extends base check cell rest row t
       unfolding read_table
@@ -89,7 +83,7 @@ module _ {base check : List ℤ} {key : List ℕ} {row : ℕ} (i : Inserts base 
 
       held_now : lookup document01 t.cells key ≡ 0
       unfolding read_table
-      held_now = held_is
+      held_now = none_held base check i.whole key i.identifier w z
 
       -- The course, and the answer to it.
       abbrev course : Course
