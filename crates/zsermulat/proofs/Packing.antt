@@ -6,34 +6,19 @@ use Prim.Native.Nat.{ℕ, ◌+◌, ◌*◌, ◌/◌, ◌%◌, ◌≤◌, ◌<◌
 use native.Mathlib.Omega.{arith}
 use lib.ListN.{length}
 use lib.IntN.{ℤ}
-use Rattle.rules.specs.declared.Answer.{Answer}
-use Rattle.rules.specs.declared.Answer.TheVariants.{Done, Found, Size, Key, Number, Damaged, Present, Absent, NoRoom, NoSpace, Line}
-use Rattle.rules.specs.Answers.{number, value}
+use Rattle.rules.specs.Answers.{Answer, number, value}
 use Rattle.rules.specs.WhatTheIndexDoes.{document01, right_lengths}
-use Rattle.rules.specs.ASoundTable.{sound}
 use Rattle.rules.specs.Rendering.{chained}
 use Rattle.rules.specs.Commands.{Command}
-use Rattle.rules.specs.Promised.{Edits, Writes, Runs}
-use Rattle.rules.specs.Calls.{Edited, Written, Ran, fresh_call, find_call, edit_call, audit_call, list_call, run_call}
-use Rattle.rules.proofs.Choices.{branch}
+use Rattle.rules.specs.Calls.{fresh_call, find_call, edit_call, audit_call, list_call, run_call}
 use Rattle.rules.proofs.Lengths.{lengths_within}
 use Rattle.tree.proofs.SingleCalls.{chained_audited}
 use Rattle.tree.proofs.Values.{find_most, edit_most, list_most, run_most}
-use Rattle.zsermulat.specs.Packed.{PLACE, packed, number_in, value_in, Packs, EditsPacked, WritesPacked, RunsPacked}
+use Rattle.zsermulat.specs.Packed.{PLACE, packed, number_in, value_in, Packs}
 
 -- The answers' numbers go to 9; with 4 bits they may go to 15.
 pub number_most : (a : Answer) → number a ≤ 9
-number_most (Done n) = omega arith
-number_most (Found r) = omega arith
-number_most Size = omega arith
-number_most Key = omega arith
-number_most Number = omega arith
-number_most Damaged = omega arith
-number_most (Present r) = omega arith
-number_most Absent = omega arith
-number_most NoRoom = omega arith
-number_most NoSpace = omega arith
-number_most Line = omega arith
+number_most a = grind arith
 
 -- Unpacking gives both back.
 pub unpacked : (a : Answer) → value a < PLACE → Packs a (packed a)
@@ -51,30 +36,16 @@ unpacked a h = record { is = refl; number_is = upper (number a) (value a) h; val
 pub handed : {a r : Answer} → r ≡ a → value a < PLACE → {w : ℕ} → w ≡ packed r → Packs a w
 handed {a} e h p = rw (p, e) (unpacked a h)
 
-pub edits_handed : {e : Edited} {r : Answer} {base check : List ℤ} → Edits e r base check → value e.answer < PLACE → {w : ℕ} →
-    w ≡ packed r → EditsPacked e w base check
-edits_handed k h p = record { answer = handed k.answer h p; base_is = k.base_is; check_is = k.check_is }
-
-pub writes_handed : {x : Written} {r : Answer} {out : List ℕ} → Writes x r out → value x.answer < PLACE → {w : ℕ} →
-    w ≡ packed r → WritesPacked x w out
-writes_handed k h p = record { answer = handed k.answer h p; out_is = k.out_is }
-
-pub runs_handed : {x : Ran} {r : Answer} {base check : List ℤ} {out : List ℕ} → Runs x r base check out → value x.answer < PLACE →
-    {w : ℕ} → w ≡ packed r → RunsPacked x w base check out
-runs_handed k h p = record { answer = handed k.answer h p; base_is = k.base_is; check_is = k.check_is; out_is = k.out_is }
-
 -- ---- the values of the calls, on arrays of any contents
 
 module _ (base check : List ℤ) where
   pub fresh_small : value (fresh_call document01 base check).answer < PLACE
   unfolding fresh_call
-  fresh_small = branch (λ (e : Edited). value e.answer < PLACE) (right_lengths base check) (λ _. omega arith) (λ _. omega arith)
+  fresh_small = grind arith
 
   pub audit_small : value (audit_call chained document01 base check) < PLACE
   unfolding audit_call
-  audit_small =
-      branch (λ a. value a < PLACE) (right_lengths base check)
-      (λ _. branch (λ a. value a < PLACE) (sound document01 base check) (λ _. omega arith) (λ _. omega arith)) (λ _. omega arith)
+  audit_small = grind arith
 
   pub find_small : (key : List ℕ) → value (find_call document01 base check key) < PLACE
   find_small key = omega (arith, find_most document01 base check key)

@@ -1,8 +1,7 @@
 -- How an answer is handed to C, and the promises of the calls with the answer in that form. `Packs` says that nothing is lost: both
 -- of the answer's numbers come back.
 use Rattle.std.specs.Prelude.{◌≡◌, List, ℕ, ◌+◌, ◌*◌, ◌/◌, ◌%◌, ℤ}
-use Rattle.rules.specs.declared.Answer.{Answer}
-use Rattle.rules.specs.Answers.{number, value}
+use Rattle.rules.specs.Answers.{Answer, number, value}
 use Rattle.rules.specs.Calls.{Edited, Written, Ran}
 
 -- 2^60: the value has the lower 60 bits, the answer's number the 4 above them.

@@ -13,18 +13,20 @@ ghost use Rattle.zsermulat.specs.Packed.{PLACE, packed, Packs, EditsPacked, Writ
 use rules::{Answer, Row};
 
 // What an answer's number counts for: 2^60.
-const PLACE: u64 = 1152921504606846976;
+const PLACE: u64 = 1 << 60;
 
 // An answer as one number: its own number in the upper 4 bits, its value in the lower 60.
-fn pack(a: Answer) -> u64
-    requires { value a < PLACE }
-    ensures { result ≡ packed a }
+#[tactic(auto, using(crate::proofs::Packing::number_most), unfolding(crate::specs::Packed::packed))]
+fn pack(answer: Answer) -> u64
+    requires { value answer < PLACE }
+    ensures { result ≡ packed answer }
 {
-    a.number() as u64 * PLACE + a.value() as u64
+    rules::number(answer) as u64 * PLACE + rules::value(answer) as u64
 }
 
 // Each of these is the call of `index` that has its name; include/zsermulat.h says in C's words what it answers.
 
+#[tactic(auto, using(crate::proofs::Packing::handed, crate::proofs::Packing::fresh_small))]
 #[unsafe(no_mangle)]
 pub extern "C" fn zs_fresh(base: &mut [i32], check: &mut [i32]) -> u64
     ensures { EditsPacked (fresh_call document01 base.old check.old) result base.new check.new }
@@ -32,6 +34,7 @@ pub extern "C" fn zs_fresh(base: &mut [i32], check: &mut [i32]) -> u64
     pack(index::fresh(base, check))
 }
 
+#[tactic(auto, using(crate::proofs::Packing::handed, crate::proofs::Packing::find_small))]
 #[unsafe(no_mangle)]
 pub extern "C" fn zs_find(base: &[i32], check: &[i32], key: &[u8]) -> u64
     ensures { Packs (find_call document01 base.now check.now key.now) result }
@@ -39,6 +42,7 @@ pub extern "C" fn zs_find(base: &[i32], check: &[i32], key: &[u8]) -> u64
     pack(index::find(base, check, key))
 }
 
+#[tactic(auto, using(crate::proofs::Packing::handed, crate::proofs::Packing::edit_small))]
 #[unsafe(no_mangle)]
 pub extern "C" fn zs_insert(base: &mut [i32], check: &mut [i32], key: &[u8], row: u32) -> u64
     ensures { EditsPacked (insert_call chained document01 base.old check.old key.now row) result base.new check.new }
@@ -46,6 +50,7 @@ pub extern "C" fn zs_insert(base: &mut [i32], check: &mut [i32], key: &[u8], row
     pack(index::insert(base, check, key, Row(row)))
 }
 
+#[tactic(auto, using(crate::proofs::Packing::handed, crate::proofs::Packing::edit_small))]
 #[unsafe(no_mangle)]
 pub extern "C" fn zs_delete(base: &mut [i32], check: &mut [i32], key: &[u8]) -> u64
     ensures { EditsPacked (delete_call chained document01 base.old check.old key.now) result base.new check.new }
@@ -53,6 +58,7 @@ pub extern "C" fn zs_delete(base: &mut [i32], check: &mut [i32], key: &[u8]) -> 
     pack(index::delete(base, check, key))
 }
 
+#[tactic(auto, using(crate::proofs::Packing::handed, crate::proofs::Packing::edit_small))]
 #[unsafe(no_mangle)]
 pub extern "C" fn zs_compact(base: &mut [i32], check: &mut [i32], n: usize) -> u64
     ensures { EditsPacked (compact_call chained document01 base.old check.old n) result base.new check.new }
@@ -60,6 +66,7 @@ pub extern "C" fn zs_compact(base: &mut [i32], check: &mut [i32], n: usize) -> u
     pack(index::compact(base, check, n))
 }
 
+#[tactic(auto, using(crate::proofs::Packing::handed, crate::proofs::Packing::audit_small))]
 #[unsafe(no_mangle)]
 pub extern "C" fn zs_audit(base: &[i32], check: &[i32]) -> u64
     ensures { Packs (audit_call chained document01 base.now check.now) result }
@@ -67,6 +74,7 @@ pub extern "C" fn zs_audit(base: &[i32], check: &[i32]) -> u64
     pack(index::audit(base, check))
 }
 
+#[tactic(auto, using(crate::proofs::Packing::handed, crate::proofs::Packing::list_small))]
 #[unsafe(no_mangle)]
 pub extern "C" fn zs_list(base: &[i32], check: &[i32], out: &mut [u8]) -> u64
     ensures { WritesPacked (list_call chained document01 base.now check.now out.old) result out.new }
@@ -74,6 +82,7 @@ pub extern "C" fn zs_list(base: &[i32], check: &[i32], out: &mut [u8]) -> u64
     pack(index::list(base, check, out))
 }
 
+#[tactic(auto, using(crate::proofs::Packing::handed, crate::proofs::Packing::run_small))]
 #[unsafe(no_mangle)]
 pub extern "C" fn zs_run(
     base: &mut [i32],
