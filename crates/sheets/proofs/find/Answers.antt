@@ -1,10 +1,27 @@
--- `find` looks the text up in the table. Assumes nothing.
+-- `find` refuses what is no identifier, and walks otherwise. Assumes nothing.
+use mathlib.Core.Path.{ap, ◌∙◌}
+use mathlib.Core.Bool.{true}
+use Rattle.rules.specs.WhatTheIndexDoes.{document01}
+use Rattle.rules.specs.Commands.{find, key_allowed}
+use Rattle.rules.specs.ARun.{answered_line}
+use Rattle.rules.proofs.Choices.{was_no, was_yes}
+use Rattle.finding.specs.Reaching.{found_in}
 use Rattle.finding.proofs.KnownSound.{same_length, enough, few}
+use Rattle.finding.proofs.RowFound.{found_absent}
+use Rattle.tree.proofs.Identifiers.{identifier_coded}
+use Rattle.tree.proofs.Answered.{answered_key}
 use Rattle.sheets.proofs.Carried.{looked_up}
 use Rattle.sheets.proofs.find.Goals as goal
 
-pub invariant_of-row : goal.invariant_of-row
-invariant_of-row c = record { same_length = same_length _ _ c.requires; enough = enough _ _ c.requires; few = few _ _ c.requires }
+pub returns-then-not-is_identifier : goal.returns-then-not-is_identifier
+unfolding answered_line key_allowed
+returns-then-not-is_identifier c = answered_key _ _ true (find _) (was_no _ c.is_identifier.ensures c.if-not-is_identifier.true)
+
+pub invariant_of-look_up : goal.invariant_of-look_up
+invariant_of-look_up c = record { same_length = same_length _ _ c.requires; enough = enough _ _ c.requires; few = few _ _ c.requires }
 
 pub returns : goal.returns
-returns c = looked_up _ _ c.requires _ c.row.ensures
+returns c =
+    let identifier = was_yes _ c.is_identifier.ensures c.if-not-is_identifier.false in
+    let row = c.look_up-looked.ensures.row_is (identifier_coded document01 _ identifier) in
+    looked_up _ _ c.requires _ identifier (c.found_or_absent.ensures ∙ ap found_in row ∙ found_absent _)
