@@ -6,7 +6,7 @@ use Prim.Native.Nat.{ℕ, ◌≤◌}
 use lib.ListN.{length}
 use lib.IntN.{ℤ}
 use borrow.Author.Tests.{eq-eqb}
-use Rattle.rules.specs.declared.Answer.{Answer}
+use Rattle.rules.specs.Answers.{Answer}
 use Rattle.rules.specs.WhatTheIndexDoes.{document01, right_lengths}
 use Rattle.rules.specs.ASoundTable.{sound}
 use Rattle.rules.specs.Calls.{fresh_call}

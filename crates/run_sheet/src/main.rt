@@ -65,7 +65,8 @@ fn main(rt: HostRuntime) {
         held: 0,
         answers: [0; ROOM],
     };
-    index::fresh(&mut desk.base, &mut desk.check);
+    // The lengths are right, so that it is done.
+    let _ = index::fresh(&mut desk.base, &mut desk.check);
     if let Err(failure) = answer_all(rt.stdin(), rt.stdout(), &mut desk) {
         let mut errors = rt.stderr();
         let _ = write!(errors, "{failure}");
@@ -98,6 +99,7 @@ fn read(input: &mut Stdin, buffer: &mut [u8], held: usize) -> Result<usize, Fail
 impl Desk {
     // Answers the lines that are finished with what was read behind what is carried over; or what is carried over, where nothing was
     // read, for then the sheet has ended.
+    #[tactic(auto, using(crate::proofs::Turning::last_room, parts::proofs::InParts::all_counted))]
     fn answer_part(&mut self, got: Result<usize, Failure>) -> Result<Turn, Failure>
         requires { Reached self.old got }
         ensures { Taken self.old got self.new result }
