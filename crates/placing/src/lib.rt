@@ -29,27 +29,16 @@ pub fn seek(check: &[i32], size: usize, codes: &[usize]) -> usize
     let low = least(codes);
     let span = greatest(codes) - low;
     let last = last_stored(check, size);
-    let mut u = pass_over(check, last, span, numbers::at::<Minus>(check, 0));
+    let stored = Stored { check, last };
+    let mut u = stored.pass_over(span, numbers::at::<Minus>(check, 0));
     while u <= last {
-        if low < u && opens(check, last, codes, u - low) {
+        if low < u && stored.opens(codes, u - low) {
             return u - low;
         }
-        u = pass_over(check, last, span, numbers::known::<Minus>(check, u));
+        u = stored.pass_over(span, numbers::known::<Minus>(check, u));
     }
     // Past the chain's end every base opens.
     (size + 1).saturating_sub(low).max(1)
-}
-
-// Along the chain, from a cell on it, past the bases whose greatest cell is used: it lies span cells after the least.
-fn pass_over(check: &[i32], last: usize, span: usize, from: usize) -> usize
-    requires { Passes check.now last span from }
-    ensures { Passed check.now last span from result }
-{
-    let mut u = from;
-    while u + span <= last && numbers::is_plus_in(check, u + span) {
-        u = numbers::known::<Minus>(check, u);
-    }
-    u
 }
 
 // The last cell up to the size that the array holds. What lies past it is unused, so one test serves for the size and the array.
@@ -60,28 +49,51 @@ fn last_stored(check: &[i32], size: usize) -> usize
     size.min(check.len() - 1)
 }
 
-// Whether the cell u is used. Cells past the last count as unused.
-fn is_taken(check: &[i32], last: usize, u: usize) -> bool
-    requires { last < length check.now }
-    ensures { result ≡ taken_at check.now last u }
-{
-    u <= last && numbers::is_plus_in(check, u)
+// The cells up to that one, by check.
+#[derive(Clone, Copy)]
+struct Stored<'a> {
+    check: &'a [i32],
+    last: usize,
+    ghost inside: { last < length check.now },
 }
 
-// Whether every q + code is unused. The first code is tried last: most often it is the least, whose cell is on the chain.
-fn opens(check: &[i32], last: usize, codes: &[usize], q: usize) -> bool
-    requires { (last < length check.now) × (q ≤ 65536) × Codes codes.now }
-    ensures { result ≡ opens (taken_at check.now last) codes.now q }
-{
-    are_unused(check, last, &codes[1..], q) && !is_taken(check, last, q + codes[0])
-}
+impl<'a> Stored<'a> {
+    // Along the chain, from a cell on it, past the bases whose greatest cell is used: it lies span cells after the least.
+    fn pass_over(self, span: usize, from: usize) -> usize
+        requires { Passes self.check.now self.last span from }
+        ensures { Passed self.entry.check.now self.entry.last span from result }
+    {
+        let mut u = from;
+        while u + span <= self.last && numbers::is_plus_in(self.check, u + span) {
+            u = numbers::known::<Minus>(self.check, u);
+        }
+        u
+    }
 
-// The same of codes in their order, which may be none.
-fn are_unused(check: &[i32], last: usize, codes: &[usize], q: usize) -> bool
-    requires { (last < length check.now) × (q ≤ 65536) × ((c : ℕ) → Among c codes.now → c ≤ GREATEST) }
-    ensures { result ≡ opens (taken_at check.now last) codes.now q }
-{
-    codes.iter().all(|code| !is_taken(check, last, q + *code))
+    // Whether the cell u is used.
+    fn is_taken(self, u: usize) -> bool
+        ensures { result ≡ taken_at self.entry.check.now self.entry.last u }
+    {
+        u <= self.last && numbers::is_plus_in(self.check, u)
+    }
+
+    // Whether every q + code is unused. The first code is tried last: most often it is the least, whose cell is on the chain.
+    fn opens(self, codes: &[usize], q: usize) -> bool
+        requires near { q ≤ 65536 }
+        requires wanted { Codes codes.now }
+        ensures { result ≡ opens (taken_at self.entry.check.now self.entry.last) codes.now q }
+    {
+        self.are_unused(&codes[1..], q) && !self.is_taken(q + codes[0])
+    }
+
+    // The same of codes in their order, which may be none.
+    fn are_unused(self, codes: &[usize], q: usize) -> bool
+        requires near { q ≤ 65536 }
+        requires small { (c : ℕ) → Among c codes.now → c ≤ GREATEST }
+        ensures { result ≡ opens (taken_at self.entry.check.now self.entry.last) codes.now q }
+    {
+        codes.iter().all(|code| !self.is_taken(q + *code))
+    }
 }
 
 // The least of some codes. A fold from the first one and not `min`, whose case of no codes would have the search read codes[0] anew

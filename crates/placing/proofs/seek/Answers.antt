@@ -34,7 +34,7 @@ loop-u-init c =
 pub opens-requires : goal.opens-requires
 opens-requires c =
     let p = c.requires in
-    (c.last_stored-last.ensures.inside, omega arith, p.wanted)
+    record { near = omega arith; wanted = p.wanted }
 
 pub returns-then-opens : goal.returns-then-opens
 returns-then-opens c = λ m ch. found _ (c.loop-u.invariant m ch) _ (omega arith) (omega arith) (omega arith)

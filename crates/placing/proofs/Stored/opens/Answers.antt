@@ -11,7 +11,7 @@ use Rattle.rules.specs.Placement.{opens}
 use Rattle.rules.proofs.Texts.{behind, first_and_rest}
 use Rattle.tree.specs.Members.{Among}
 use Rattle.placing.specs.Search.{Codes}
-use Rattle.placing.proofs.opens.Goals as goal
+use Rattle.placing.proofs.Stored.opens.Goals as goal
 
 module _ {codes : List ℕ} (w : Codes codes) where
   first_small : get_or codes 0 0 ≤ GREATEST
@@ -30,14 +30,14 @@ module _ {codes : List ℕ} (w : Codes codes) where
     rest_decides e = sym (ap (λ (cs : List ℕ). opens used cs q) (first_and_rest codes w.some) ∙ rw e (and-false (not (used (q + get_or codes 0 0)))))
 
 pub are_unused-requires : goal.are_unused-requires
-are_unused-requires c = let p = c.requires in (p.0, p.1, rest_small p.2)
+are_unused-requires c = let p = c.requires in record { near = p.near; small = rest_small p.wanted }
 
 pub overflow_add-q : goal.overflow_add-q
-overflow_add-q c = omega (arith, first_small c.requires.2)
+overflow_add-q c = omega (arith, first_small c.requires.wanted)
 
 pub returns-then-are_unused : goal.returns-then-are_unused
-returns-then-are_unused c = ap not c.is_taken.ensures ∙ first_decides c.requires.2 _ _
+returns-then-are_unused c = ap not c.is_taken.ensures ∙ first_decides c.requires.wanted _ _
     (sym c.are_unused.ensures ∙ c.if-are_unused.true)
 
 pub returns-else-are_unused : goal.returns-else-are_unused
-returns-else-are_unused c = c.if-are_unused.false ∙ rest_decides c.requires.2 _ _ (sym c.are_unused.ensures ∙ c.if-are_unused.false)
+returns-else-are_unused c = c.if-are_unused.false ∙ rest_decides c.requires.wanted _ _ (sym c.are_unused.ensures ∙ c.if-are_unused.false)

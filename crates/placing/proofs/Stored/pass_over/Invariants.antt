@@ -2,10 +2,10 @@
 -- is left to the last cell. Assumes nothing.
 use Prim.Native.Nat.{suc, ◌-◌}
 use Rattle.placing.specs.Search.{Passes, Passed}
-use Rattle.placing.proofs.pass_over.Given as goal
+use Rattle.placing.proofs.Stored.pass_over.Given as goal
 
 abbrev pub invariant-loop-u : goal.invariant-loop-u
-invariant-loop-u l = Passes l.check l.last l.span l.u × Passed l.check l.last l.span l.from l.u
+invariant-loop-u l = Passes l.self.check.now l.self.last l.span l.u × Passed l.self.check.now l.self.last l.span l.from l.u
 
 abbrev pub decreases-loop-u : goal.decreases-loop-u
-decreases-loop-u l = suc l.last - l.u
+decreases-loop-u l = suc l.self.last - l.u

@@ -2,7 +2,7 @@
 use native.Mathlib.Omega.{arith}
 use Rattle.rules.proofs.Choices.{was_yes}
 use Rattle.placing.proofs.GreatestFirst.{passes_on, passed_on}
-use Rattle.placing.proofs.pass_over.Goals as goal
+use Rattle.placing.proofs.Stored.pass_over.Goals as goal
 
 pub loop-u-preserved : goal.loop-u-preserved
 loop-u-preserved c =
