@@ -1,5 +1,7 @@
 // Claiming a cell, releasing one, and the size. The chain is walked from its head to the cell's place; of the links before that
 // place only the last is rewritten.
+// By hand: base and check are two parameters, here and wherever arrays are edited. A type that holds two `&mut` has to promise in each
+// contract that it still holds the same two, and what is shown by the two would stand there as before.
 #![tactic(auto)]
 
 ghost use Rattle.std.specs.Prelude.{true, ◌≡◌, max, set};

@@ -1,4 +1,5 @@
 // Compaction: steps that move the children of one node to a smaller base, as long as that is possible.
+// By hand: base and check are two parameters, as in `cells`.
 #![tactic(auto)]
 
 ghost use Rattle.rules.specs.WhatTheIndexDoes.{document01};

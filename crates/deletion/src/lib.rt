@@ -1,4 +1,5 @@
 // Document 01, 'Deletion and compaction', on a table known to be sound.
+// By hand: base and check are two parameters, as in `cells`.
 #![tactic(auto)]
 
 ghost use Rattle.std.specs.Prelude.{true, ◌≡◌};

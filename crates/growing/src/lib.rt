@@ -1,5 +1,6 @@
 // A branch put below a node, label by label, and taken back where a placement does not fit: each step takes back what it did, so
 // that every element is as it was.
+// By hand: base and check are two parameters, as in `cells`.
 #![tactic(auto)]
 
 ghost use Rattle.std.specs.Prelude.{◌≡◌};
@@ -12,6 +13,8 @@ use rules::{Alphabet, Cell, Refusal, Row};
 
 // From the node s, whose base leads to an unused cell for the first label of the rest: that cell is then used, and each further
 // label gets the placed base of its one code at the node before it. NO ROOM where one of them does not fit; nothing has changed then.
+// By hand: s, rest and row, here and in `insertion`. Node and rest are others at each label, so that one value of the three would be taken
+// apart and made anew at each call.
 pub fn grow(
     base: &mut [i32],
     check: &mut [i32],
@@ -70,6 +73,8 @@ fn retract(base: &mut [i32], check: &mut [i32], u: Cell, size: usize)
 }
 
 // The first label of what is left of an identifier: the code of its first character, or the end mark.
+// By hand: 0 for a character without a code, as `first_label` has it, which is what is promised. Those who ask hold an identifier, so that
+// an `Option` would be unwrapped at each call.
 pub fn label(rest: &[u8]) -> usize
     ensures { Label rest.now result }
 {

@@ -1,5 +1,6 @@
 // The public calls. None of them asks anything of its caller: each has a promise for arrays of any lengths and contents and for
 // any command, refused ones included, and it determines the answer and every element and byte that is lent.
+// By hand: base and check are two parameters: that is what document 01's caller lends, and C.
 #![tactic(auto)]
 
 ghost use Rattle.rules.specs.WhatTheIndexDoes.{document01};

@@ -1,5 +1,6 @@
 // Document 01, 'Insertion', on a table known to be sound. It is carried out label by label; where a placement in its course does
 // not fit, each step takes back what it did, so that every element is as it was.
+// By hand: base and check are two parameters, as in `cells`.
 #![tactic(auto)]
 
 ghost use Rattle.rules.specs.WhatTheIndexDoes.{document01, last_cell};

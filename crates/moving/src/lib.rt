@@ -1,5 +1,6 @@
 // A node's children: their codes, and their move to another base, one child after another. The codes are taken before the first
 // move; to ask for a cell's parent while children move is wrong, for one that has moved can stand where another is looked for.
+// By hand: base and check are two parameters, as in `cells`.
 #![tactic(auto)]
 
 ghost use Rattle.std.specs.Prelude.{◌≡◌, List, [], ◌∷◌, ◌++◌, ℕ, ◌+◌, ◌≤◌, length, take};

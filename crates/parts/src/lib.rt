@@ -1,5 +1,6 @@
 // A sheet that comes in parts, on a table known to be sound. Of each part the finished lines are answered; the last one, if it is not
 // finished, is carried over to the front of the next part. However the sheet is cut into parts, its answers are the same.
+// By hand: base and check are two parameters, as in `cells`, and so each contract asks for a sound table.
 #![tactic(auto)]
 
 ghost use Rattle.parts.specs.Parts.{Cut, Carries, Carried, AnswersPart, PartAnswered};
@@ -15,6 +16,7 @@ pub struct Part {
 }
 
 // Answers the finished lines among the first n bytes of the buffer, and carries the rest over to its front.
+// By hand: n beside the buffer, since its promise speaks of the whole buffer, whose other bytes stay.
 pub fn answer(
     base: &mut [i32],
     check: &mut [i32],

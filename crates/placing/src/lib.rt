@@ -1,4 +1,5 @@
 // Document 01, 'Placement': the base for a set of codes, sought along the chain of empty cells.
+// By hand: base and check are two parameters, as in `cells`.
 #![tactic(auto)]
 
 ghost use Rattle.std.specs.Prelude.{◌≡◌, ℕ, ◌≤◌, ◌<◌, length};

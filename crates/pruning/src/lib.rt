@@ -1,4 +1,5 @@
 // The cells that a deletion frees after the leaf: each parent left without a child.
+// By hand: base and check are two parameters, as in `cells`.
 #![tactic(auto)]
 
 ghost use Rattle.std.specs.Prelude.{◌≡◌};

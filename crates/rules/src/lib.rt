@@ -154,6 +154,7 @@ pub enum Refusal {
 pub type Answer = Result<Done, Refusal>;
 
 // The answer's number.
+// By hand: no `From`, since an answer is turned into two numbers, this one and its value.
 pub fn number(answer: Answer) -> u32
     ensures { result ≡ number answer }
 {

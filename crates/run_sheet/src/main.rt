@@ -89,6 +89,7 @@ fn answer_all(mut input: Stdin, mut output: Stdout, desk: &mut Desk) -> Result<(
 }
 
 // Reads once, behind what is carried over; gives the number of bytes that were read.
+// By hand: held beside the buffer, since its promise speaks of the bytes before it, which stay.
 fn read(input: &mut Stdin, buffer: &mut [u8], held: usize) -> Result<usize, Failure>
     requires { held ≤ length buffer.old }
     ensures { ReadBehind buffer.old held result buffer.new }

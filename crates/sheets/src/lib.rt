@@ -1,5 +1,6 @@
 // Document 01, 'A run', on a table known to be sound: the lines of a sheet are answered in turn, by the functions that the single
 // calls hand on to after their audit.
+// By hand: base and check are two parameters, as in `cells`, and so each contract asks for a sound table.
 #![tactic(auto)]
 
 ghost use Rattle.std.specs.Prelude.{true, ◌≡◌};
@@ -34,6 +35,7 @@ pub fn run(base: &mut [i32], check: &mut [i32], sheet: &[u8], answers: &mut [u8]
 }
 
 // Answers each line in turn; each answer goes to the next part of the buffer. Gives the number of lines.
+// By hand: `split` would look for the end of each line first, which most lines tell themselves (`reading`).
 pub fn answer(base: &mut [i32], check: &mut [i32], sheet: &[u8], answers: &mut [u8]) -> usize
     requires { AnswersLines base.old check.old sheet.now answers.old }
     ensures { AllAnswered base.old check.old sheet.now answers.old result base.new check.new answers.new }

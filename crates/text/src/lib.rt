@@ -49,6 +49,7 @@ fn put_hexes(out: &mut [u8], at: usize, key: &[u8])
 }
 
 // Writes the last k hexadecimal digits of n from byte `at` on, the last one first.
+// By hand: `write!` with `{n:0k$x}` gives a `Result` to be looked at for each number, and of a greater number more than k digits.
 pub fn put_hex(out: &mut [u8], at: usize, k: usize, n: usize)
     requires { at + k ≤ length out.old }
     ensures { out.new ≡ sets out.old at (hex k n) }

@@ -5,6 +5,7 @@ ghost use Rattle.text.specs.Reading.{NumberRead, CharactersRead};
 // The number that at most 8 digits say, or none where a byte is no digit. The tests stand here, and not in a function of what a digit
 // stands for: so the compiler leaves at the first byte that is none, with no second test.
 // By hand: a match on ranges of b made two tests of each digit, 110 instructions more for a line of a run.
+// By hand: `from_str_radix` takes a `&str`, and a sign and capital letters too.
 #[tactic(auto, using(crate::proofs::DigitsRead::not_read, crate::proofs::DigitsRead::all_read))]
 pub fn number(digits: &[u8]) -> Option<usize>
     requires { length digits.now ≤ 8 }
