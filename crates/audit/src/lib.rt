@@ -12,13 +12,15 @@ ghost use Rattle.audit.specs.Marks.{marked, MarksPast, CellsMarked};
 ghost use Rattle.audit.specs.Ways.{Starts, Climbed, WaysUpTo, FirstLook, SecondLook};
 
 use numbers::{Minus, Plus, Side};
-use rules::{Alphabet, Arrays, Cell, LIMIT, LONGEST};
+use rules::{Alphabet, Cell, LIMIT, LONGEST};
 
 // Whether the two arrays hold a sound table.
-pub fn is_sound(arrays: Arrays) -> bool
-    ensures { result ≡ sound document01 arrays.entry.base.now arrays.entry.check.now }
+pub fn is_sound(base: &[i32], check: &[i32]) -> bool
+    ensures { result ≡ sound document01 base.now check.now }
 {
-    let Arrays { base, check } = arrays;
+    if !rules::right_lengths(base, check) {
+        return false;
+    }
     let size = numbers::at::<Plus>(base, 0);
     if size == 0 || base.len() <= size {
         return false;

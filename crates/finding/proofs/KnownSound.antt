@@ -12,7 +12,7 @@ use Rattle.rules.specs.Options.{some_row}
 use Rattle.rules.specs.declared.Row.{Row}
 use Rattle.rules.specs.ASoundTable.{sound}
 use Rattle.rules.specs.Rendering.{read_cells}
-use Rattle.rules.proofs.Lengths.{lengths_same, lengths_within}
+use Rattle.rules.proofs.Lengths.{lengths_within}
 use Rattle.tree.proofs.Identifiers.{identifier_coded}
 use Rattle.tree.proofs.SevenRules.{rules_render}
 use Rattle.tree.proofs.Finding.{reached_node, found_row}
@@ -24,9 +24,6 @@ module _ (base check : List ℤ) (whole : sound document01 base check ≡ true) 
   rightly = (rules_render document01 base check whole).lengths
 
   -- What arrays that can hold a table are asked.
-  pub same_length : length base ≡ length check
-  same_length = lengths_same base check rightly
-
   pub enough : 2 ≤ length base
   enough = (lengths_within base check rightly).0
 

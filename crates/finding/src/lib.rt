@@ -1,7 +1,8 @@
-// Document 01, 'Finding': the walk through two arrays of any contents, character by character from the root.
+// Document 01, 'Finding': the walk through two arrays of any contents. At each step the rest of the identifier is handed on as a part of
+// the caller's slice, together with the cell reached.
 #![tactic(auto)]
 
-ghost use Rattle.std.specs.Prelude.{◌≤◌, ◌<◌, ◌≡◌, leb, length};
+ghost use Rattle.std.specs.Prelude.{◌≤◌, ◌<◌, ◌≡◌, leb, length, get_or};
 ghost use Rattle.numbers.specs.Stored.{plus_at, Reads};
 ghost use Rattle.rules.specs.WhatTheIndexDoes.{GREATEST};
 ghost use Rattle.rules.specs.Options.{some_cell, some_row};
@@ -62,8 +63,8 @@ fn walk(arrays: Arrays, key: &[u8]) -> Reached
     ensures { Walked arrays.entry.base.now arrays.entry.check.now key.now result.cell.0 result.met }
 {
     let mut cell = Cell(1);
-    for (met, ch) in key.iter().enumerate() {
-        let Some(t) = step(arrays, cell, *ch) else {
+    for met in 0..key.len() {
+        let Some(t) = step(arrays, cell, &key[met..]) else {
             return Reached { cell, met };
         };
         cell = t;
@@ -85,12 +86,13 @@ fn held(arrays: Arrays, characters: usize, reached: Reached) -> Option<Row>
     row_of(arrays.base, leaf)
 }
 
-// The cell to which a character leads from the cell reached: one without a code leads nowhere.
-fn step(arrays: Arrays, reached: Cell, ch: u8) -> Option<Cell>
-    requires { IsCell arrays.base.now reached.0 }
-    ensures { result ≡ some_cell (step_at arrays.entry.base.now arrays.entry.check.now reached.0 ch) }
+// The cell to which the first character of the rest leads from the cell reached: one without a code leads nowhere.
+fn step(arrays: Arrays, reached: Cell, rest: &[u8]) -> Option<Cell>
+    requires cell { IsCell arrays.base.now reached.0 }
+    requires some { 0 < length rest.now }
+    ensures { result ≡ some_cell (step_at arrays.entry.base.now arrays.entry.check.now reached.0 (get_or rest.now 0 0)) }
 {
-    let code = Alphabet::code(ch)?;
+    let code = Alphabet::code(rest[0])?;
     next_within(arrays, reached, code)
 }
 

@@ -40,14 +40,14 @@ pub fn find(base: &[i32], check: &[i32], key: &[u8]) -> Answer
 pub fn insert(base: &mut [i32], check: &mut [i32], key: &[u8], row: Row) -> Answer
     ensures { Edits (insert_call chained document01 base.old check.old key.now row.0) result base.new check.new }
 {
-    let arrays = Arrays::lent(base, check)?;
+    Arrays::lent(base, check)?;
     if !rules::is_identifier(key) {
         return Err(Refusal::Key);
     }
     if !rules::is_row(row.0 as usize) {
         return Err(Refusal::Number);
     }
-    if !audit::is_sound(arrays) {
+    if !audit::is_sound(base, check) {
         return Err(Refusal::Damaged);
     }
     insertion::insert(base, check, key, row)
@@ -58,11 +58,11 @@ pub fn insert(base: &mut [i32], check: &mut [i32], key: &[u8], row: Row) -> Answ
 pub fn delete(base: &mut [i32], check: &mut [i32], key: &[u8]) -> Answer
     ensures { Edits (delete_call chained document01 base.old check.old key.now) result base.new check.new }
 {
-    let arrays = Arrays::lent(base, check)?;
+    Arrays::lent(base, check)?;
     if !rules::is_identifier(key) {
         return Err(Refusal::Key);
     }
-    if !audit::is_sound(arrays) {
+    if !audit::is_sound(base, check) {
         return Err(Refusal::Damaged);
     }
     deletion::delete(base, check, key)
@@ -73,11 +73,11 @@ pub fn delete(base: &mut [i32], check: &mut [i32], key: &[u8]) -> Answer
 pub fn compact(base: &mut [i32], check: &mut [i32], n: usize) -> Answer
     ensures { Edits (compact_call chained document01 base.old check.old n) result base.new check.new }
 {
-    let arrays = Arrays::lent(base, check)?;
+    Arrays::lent(base, check)?;
     if rules::MOST_MOVES < n {
         return Err(Refusal::Number);
     }
-    if !audit::is_sound(arrays) {
+    if !audit::is_sound(base, check) {
         return Err(Refusal::Damaged);
     }
     deletion::compact(base, check, n)
@@ -88,8 +88,8 @@ pub fn compact(base: &mut [i32], check: &mut [i32], n: usize) -> Answer
 pub fn audit(base: &[i32], check: &[i32]) -> Answer
     ensures { Answers (audit_call chained document01 base.now check.now) result }
 {
-    let arrays = Arrays::lent(base, check)?;
-    if !audit::is_sound(arrays) {
+    Arrays::lent(base, check)?;
+    if !audit::is_sound(base, check) {
         return Err(Refusal::Damaged);
     }
     Ok(Done::Count(0))
@@ -101,7 +101,7 @@ pub fn list(base: &[i32], check: &[i32], out: &mut [u8]) -> Answer
     ensures { Writes (list_call chained document01 base.now check.now out.old) result out.new }
 {
     let arrays = Arrays::lent(base, check)?;
-    if !audit::is_sound(arrays) {
+    if !audit::is_sound(base, check) {
         return Err(Refusal::Damaged);
     }
     listing::list(arrays, out)

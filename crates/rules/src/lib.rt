@@ -74,20 +74,20 @@ pub fn right_lengths(base: &[i32], check: &[i32]) -> bool
     2 <= base.len() && base.len() <= LONGEST
 }
 
-// Two arrays that can hold a table, of any contents.
+// Two arrays of any contents, as they are lent: base with 2 to 65,536 elements. What walks asks no more of their lengths.
 #[derive(Clone, Copy)]
 pub struct Arrays<'a> {
     pub base: &'a [i32],
     pub check: &'a [i32],
-    ghost same_length: { length base.now ≡ length check.now },
     ghost enough: { 2 ≤ length base.now },
     ghost few: { length base.now ≤ 65536 },
 }
 
 impl<'a> Arrays<'a> {
-    // The arrays as they are lent, or SIZE.
+    // The arrays, if they can hold a table; or SIZE.
     pub fn lent(base: &'a [i32], check: &'a [i32]) -> Result<Arrays<'a>, Refusal>
         ensures lent { IfOk result (λ arrays. Lent base.now check.now arrays.base.now arrays.check.now) }
+        ensures same_length { IfOk result (λ _. length base.now ≡ length check.now) }
         ensures refused { IfErr result (Unfit base.now check.now) }
     {
         if right_lengths(base, check) {

@@ -1,12 +1,12 @@
 -- `delete` looks the identifier up; it answers ABSENT, or removes it. Assumes nothing.
-use Rattle.finding.proofs.KnownSound.{same_length, enough, few}
+use Rattle.finding.proofs.KnownSound.{enough, few}
 use Rattle.deletion.proofs.CarriedOut.{is_absent, removes, is_removed}
 use Rattle.deletion.proofs.delete.Goals as goal
 
 pub invariant_of-look_up : goal.invariant_of-look_up
 invariant_of-look_up c =
     let whole = c.requires.whole in
-    record { same_length = same_length _ _ whole; enough = enough _ _ whole; few = few _ _ whole }
+    record { enough = enough _ _ whole; few = few _ _ whole }
 
 pub returns-in_default : goal.returns-in_default
 returns-in_default c = is_absent c.requires c.look_up-looked.ensures c.in_default.is

@@ -1,10 +1,11 @@
 -- `walk` walks along the text. Assumes nothing.
-use Rattle.std.proofs.Common.{◌≡◌, refl, sym, ap, ◌∙◌, ℕ, ◌+◌, ◌≤◌, ◌<◌, true, List, ◌∷◌, map, length, get_or, drop, arith, add-zero, add-one}
+use Rattle.std.proofs.Common.{◌≡◌, refl, sym, ap, ◌∙◌, ℕ, ◌+◌, ◌≤◌, ◌<◌, true, List, ◌∷◌, map, length, get_or, take, drop, ◌-◌, arith, add-zero, add-one}
 use Rattle.std.specs.Prelude.{ℤ}
 use Rattle.std.proofs.lemmas.List.{drop_all}
 use Rattle.std.proofs.Math.Seq.{drop-cons}
 use Rattle.rules.specs.WhatTheIndexDoes.{code_of, document01, coded}
 use Rattle.rules.specs.Finding.{next_at, walk_at}
+use Rattle.rules.proofs.Texts.{part_left}
 use Rattle.rules.proofs.Walks.{walk_stops, walk_goes_on}
 use Rattle.finding.specs.Reaching.{Reaches, step_at, Walked}
 use Rattle.finding.proofs.Options.{cell_none, cell_some}
@@ -44,13 +45,18 @@ module _ {base check : List ℤ} {key : List ℕ} {s n : ℕ} (u : Underway base
           reaches = record { cell_is = on.cell_is; met_is = omega (arith, on.met_is) };
         }
 
+-- The first character of the part handed on.
+handed_on : (key : List ℕ) (n : ℕ) → n < length key → get_or (take (length key - n) (drop n key)) 0 0 ≡ get_or key n 0
+handed_on key n h = rw (part_left key n, drop-cons key n 0 h)
+
 pub returns-in_default : goal.returns-in_default
-returns-in_default c = stops c.loop-met.invariant (omega arith) _ refl (cell_none c.in_default.ensures)
+returns-in_default c =
+    stops c.loop-met.invariant (omega arith) _ (ap (step_at _ _ _) (handed_on c.args.key.now c.loop-met.met (omega arith))) (cell_none c.in_default.ensures)
 
 pub loop-met-preserved : goal.loop-met-preserved
 loop-met-preserved c =
     let led = cell_some c.in-Some.ensures in
-    goes_on c.loop-met.invariant (omega arith) _ led.0 led.1
+    goes_on c.loop-met.invariant (omega arith) _ (led.0 ∙ ap (step_at _ _ _) (handed_on c.args.key.now c.loop-met.met (omega arith))) led.1
 
 pub returns : goal.returns
 returns c = ends c.loop-met.invariant (omega arith)

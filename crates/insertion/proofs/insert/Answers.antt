@@ -1,12 +1,12 @@
 -- `insert` looks the identifier up; it answers PRESENT, or extends the table at the node where the walk stopped. Assumes nothing.
-use Rattle.finding.proofs.KnownSound.{same_length, enough, few}
+use Rattle.finding.proofs.KnownSound.{enough, few}
 use Rattle.insertion.proofs.Beginning.{is_present, extends, is_carried_out}
 use Rattle.insertion.proofs.insert.Goals as goal
 
 pub invariant_of-look_up : goal.invariant_of-look_up
 invariant_of-look_up c =
     let whole = c.requires.whole in
-    record { same_length = same_length _ _ whole; enough = enough _ _ whole; few = few _ _ whole }
+    record { enough = enough _ _ whole; few = few _ _ whole }
 
 pub returns-in-Some : goal.returns-in-Some
 returns-in-Some c = is_present c.requires c.look_up-looked.ensures c.in-Some.is

@@ -6,7 +6,7 @@ use Rattle.rules.specs.Commands.{find, key_allowed}
 use Rattle.rules.specs.ARun.{answered_line}
 use Rattle.rules.proofs.Choices.{was_no, was_yes}
 use Rattle.finding.specs.Reaching.{found_in}
-use Rattle.finding.proofs.KnownSound.{same_length, enough, few}
+use Rattle.finding.proofs.KnownSound.{enough, few}
 use Rattle.finding.proofs.RowFound.{found_absent}
 use Rattle.tree.proofs.Identifiers.{identifier_coded}
 use Rattle.tree.proofs.Answered.{answered_key}
@@ -18,7 +18,7 @@ unfolding answered_line key_allowed
 returns-then-not-is_identifier c = answered_key _ _ true (find _) (was_no _ c.is_identifier.ensures c.if-not-is_identifier.true)
 
 pub invariant_of-look_up : goal.invariant_of-look_up
-invariant_of-look_up c = record { same_length = same_length _ _ c.requires; enough = enough _ _ c.requires; few = few _ _ c.requires }
+invariant_of-look_up c = record { enough = enough _ _ c.requires; few = few _ _ c.requires }
 
 pub returns : goal.returns
 returns c =

@@ -5,6 +5,9 @@ use Rattle.rules.proofs.Arrays.lent.Goals as goal
 
 pub invariant_of-result : goal.invariant_of-result
 invariant_of-result c =
-    let e = sym c.right_lengths.ensures ∙ c.if-right_lengths.true in
-    let w = lengths_within c.args.base.now c.args.check.now e in
-    record { same_length = lengths_same c.args.base.now c.args.check.now e; enough = w.0; few = w.1 }
+    let w = lengths_within c.args.base.now c.args.check.now (sym c.right_lengths.ensures ∙ c.if-right_lengths.true) in
+    record { enough = w.0; few = w.1 }
+
+pub returns-then-right_lengths-clause-same_length :
+    goal.returns-then-right_lengths-clause-same_length
+returns-then-right_lengths-clause-same_length c = lengths_same _ _ (sym c.right_lengths.ensures ∙ c.if-right_lengths.true)
