@@ -124,6 +124,7 @@ impl Desk {
 }
 
 // Writes so many answers.
+// By hand: lines beside the buffer. That they lie within it is part of what a turn promises, and asked once, here.
 fn write(output: &mut Stdout, answers: &[u8], lines: usize) -> Result<(), Failure>
     requires { 11 * lines ≤ length answers.now }
 {
