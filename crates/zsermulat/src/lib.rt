@@ -16,8 +16,8 @@ use rules::{Answer, Row};
 const PLACE: u64 = 1 << 60;
 
 // An answer as one number: its own number in the upper 4 bits, its value in the lower 60.
-#[tactic(auto, using(crate::proofs::Packing::number_most), unfolding(crate::specs::Packed::packed))]
 // By hand: no `From`, which may not ask that the value be small.
+#[tactic(auto, using(crate::proofs::Packing::number_most), unfolding(crate::specs::Packed::packed))]
 fn pack(answer: Answer) -> u64
     requires { value answer < PLACE }
     ensures { result ≡ packed answer }
@@ -26,10 +26,9 @@ fn pack(answer: Answer) -> u64
 }
 
 // Each of these is the call of `index` that has its name; include/zsermulat.h says in C's words what it answers.
-
-#[tactic(auto, using(crate::proofs::Packing::handed, crate::proofs::Packing::fresh_small))]
 // By hand: an export for each call, since C has no generics.
 
+#[tactic(auto, using(crate::proofs::Packing::handed, crate::proofs::Packing::fresh_small))]
 #[unsafe(no_mangle)]
 pub extern "C" fn zs_fresh(base: &mut [i32], check: &mut [i32]) -> u64
     ensures { EditsPacked (fresh_call document01 base.old check.old) result base.new check.new }
