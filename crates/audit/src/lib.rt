@@ -75,11 +75,16 @@ impl<'a> Stated<'a> {
             && self.are_ways_kept(parents, depths)
     }
 
-    // Rule 1: whether every cell past the size is 0 in both arrays.
+    // Rule 1: whether every cell past the size is 0 in both arrays, from the last one down: a stray number at the end is met at once.
     fn is_past_nought(self) -> bool
         ensures { Says (PastNought self.entry.base.now self.entry.check.now) result }
     {
-        (self.size + 1..self.base.len()).all(|t| numbers::are_nought_in(self.base, self.check, t))
+        for t in (self.size + 1..self.base.len()).rev() {
+            if !numbers::are_nought_in(self.base, self.check, t) {
+                return false;
+            }
+        }
+        true
     }
 
     // Rules 2, 3 and 5, and what rules 6 and 7 say of a cell and its parent alone, at every cell but the root. The cells are

@@ -1,8 +1,9 @@
-// What a line says. A line that is a command tells its own length, so that only what is none is searched for its end.
+// What a line says. A line that is a command tells its own length, and so does one that is none by its fields alone: only what is neither is
+// searched for its end.
 ghost use Rattle.std.specs.Prelude.{◌≡◌, length};
 ghost use Rattle.rules.specs.ARun.{command_of};
 ghost use Rattle.tree.specs.WrittenLines.{EightDigits};
-ghost use Rattle.sheets.specs.Reading.{CommandRead, LineRead, asked_or_none, is_end};
+ghost use Rattle.sheets.specs.Reading.{FramedRead, LineRead, asked_or_none, is_end};
 
 use rules::Row;
 
@@ -20,16 +21,17 @@ pub fn read<'a>(rest: &[u8], key: &'a mut [u8]) -> (Option<Command<'a>>, usize)
     requires { length key.old ≡ 255 }
     ensures { LineRead rest.now result.0 result.1 }
 {
-    match read_command(rest, key) {
-        Some((command, end)) => (Some(command), end),
+    match read_framed(rest, key) {
+        Some(said) => said,
         None => (None, crate::lines::end(rest)),
     }
 }
 
-// The command with which what is left begins, and where its line ends; none where the first line is no command.
-fn read_command<'a>(rest: &[u8], key: &'a mut [u8]) -> Option<(Command<'a>, usize)>
+// What the first line says, and where it ends, if it is all digits and has the length that it says: its command, or none where its fields
+// are no command's. Any other first line is no command.
+fn read_framed<'a>(rest: &[u8], key: &'a mut [u8]) -> Option<(Option<Command<'a>>, usize)>
     requires { length key.old ≡ 255 }
-    ensures { CommandRead rest.now result }
+    ensures { FramedRead rest.now result }
 {
     if rest.len() < 12 {
         return None;
@@ -43,8 +45,7 @@ fn read_command<'a>(rest: &[u8], key: &'a mut [u8]) -> Option<(Command<'a>, usiz
     let key = &mut key[..length];
     text::reading::characters(&rest[4..end - 8], key)?;
     let number = text::reading::number(&rest[end - 8..end])?;
-    let command = command_of(operation, key, number)?;
-    Some((command, end))
+    Some((command_of(operation, key, number), end))
 }
 
 // The command that three fields say, or none.
