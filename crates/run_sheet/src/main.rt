@@ -5,7 +5,7 @@
 #![tactic(auto)]
 
 ghost use Rattle.std.specs.Prelude.{◌*◌, ◌≤◌, length};
-ghost use Rattle.run_sheet.specs.Turns.{Ready, ReadBehind, Reached, Taken};
+ghost use Rattle.run_sheet.specs.Turns.{Begins, ReadBehind, Reached, Taken};
 
 use std::fmt;
 use std::io::{Read, Stdin, Stdout, Write};
@@ -76,7 +76,7 @@ fn main(rt: HostRuntime) {
 // Has part after part answered and writes the answers, until the sheet ends. A proved loop has to end, and nothing says that a sheet
 // does: so the turns are counted, up to a number that no run comes to.
 fn answer_all(mut input: Stdin, mut output: Stdout, desk: &mut Desk) -> Result<(), Failure>
-    requires { Ready desk.old }
+    requires { Begins desk.old }
 {
     for _ in 0..u64::MAX {
         let got = read(&mut input, &mut desk.buffer, desk.held);

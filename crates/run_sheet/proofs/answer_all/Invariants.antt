@@ -1,6 +1,6 @@
--- The loop's invariant: all is ready for the next turn. Assumes nothing.
-use Rattle.run_sheet.specs.Turns.{Ready}
+-- The loop's invariant: each turn finds the desk with which the program began, or what the turn before left. Assumes nothing.
+use Rattle.run_sheet.specs.Turns.{Found}
 use Rattle.run_sheet.proofs.answer_all.Given as goal
 
 abbrev pub invariant-loop : goal.invariant-loop
-invariant-loop l = Ready l.desk
+invariant-loop l = Found l.initial.desk l.desk
