@@ -152,9 +152,9 @@ going_begun n {t = t} a = record { here = t; asked = a; comes = simp (zero-add, 
 
 module _ {n made : ℕ} {base check : List ℤ} {t : Table} (g : Going n made base check t) where
   -- All are made.
-  pub going_ended : n ≡ made → Moved (compaction_steps document01 n t) n base check
+  pub going_ended : n ≡ made → {r : ℕ} → r ≡ made → Moved (compaction_steps document01 n t) r base check
   unfolding compaction_steps
-  going_ended h = let z : n - made ≡ 0 = omega arith in rw (g.comes, z) (record { count_is = omega arith; left = g.asked.shown })
+  going_ended h e = let z : n - made ≡ 0 = omega arith in rw (g.comes, z) (record { count_is = omega arith; left = g.asked.shown })
 
   module _ (l : made < n) where
     left_is : n - made ≡ suc (n - (made + 1))

@@ -11,13 +11,13 @@ pub returns-then-not-step : goal.returns-then-not-step
 unfolding compacted
 returns-then-not-step c = λ t a.
     let g = c.loop-made.invariant t a in
-    going_stopped g c.loop-made-test.true (rw c.if-not-step.true at (c.step.ensures g.here g.asked))
+    going_stopped g (omega arith) (rw c.if-not-step.true at (c.step.ensures g.here g.asked))
 
 pub loop-made-preserved : goal.loop-made-preserved
 loop-made-preserved c = λ t a.
     let g = c.loop-made.invariant t a in
-    going_on g c.loop-made-test.true (rw c.if-not-step.false at (c.step.ensures g.here g.asked))
+    going_on g (omega arith) (rw c.if-not-step.false at (c.step.ensures g.here g.asked))
 
 pub returns : goal.returns
 unfolding compacted
-returns c = λ t a. going_ended (c.loop-made.invariant t a) (omega arith)
+returns c = λ t a. going_ended (c.loop-made.invariant t a) (omega arith) (omega arith)

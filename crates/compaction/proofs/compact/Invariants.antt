@@ -7,4 +7,4 @@ use Rattle.compaction.proofs.Compacting.{Going}
 use Rattle.compaction.proofs.compact.Given as goal
 
 abbrev pub invariant-loop-made : goal.invariant-loop-made
-invariant-loop-made l = EveryTable (Steps l.fn.base l.fn.check) (λ t. Going l.n l.made l.base l.check (trimmed t.cells t.size))
+invariant-loop-made l = EveryTable (Steps l.fn.base l.fn.check) (λ t. Going l.fn.n l.made l.base l.check (trimmed t.cells t.size))
