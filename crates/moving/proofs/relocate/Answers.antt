@@ -3,8 +3,8 @@ use mathlib.Core.Path.{◌≡◌, refl, sym, ◌∙◌}
 use mathlib.Core.List.{List, [], ◌∷◌, ◌++◌, append-nil}
 use Prim.Native.Nat.{ℕ, ◌+◌, ◌≤◌}
 use native.Mathlib.Omega.{arith}
-use lib.ListN.{length, set}
-use lib.Seq.{append_snoc}
+use lib.ListN.{length, set, take, drop}
+use lib.Seq.{append_snoc, take_all}
 use lib.IntN.{ℤ}
 use Rattle.std.proofs.Common.{rules}
 use Rattle.numbers.specs.Stored.{positive, plus_at}
@@ -53,8 +53,12 @@ module _ {base₀ check₀ : List ℤ} {s q : ℕ} {codes : List ℕ} {base chec
         shows = λ t h. hop_leaves h rest c u.gone now is (f (Hopped h u.gone) (asks t h));
       }
 
+-- The part of a slice from its start on, of all its elements.
+from_start : (k n : ℕ) (xs : List ℕ) → k ≡ 0 → length xs ≤ n → take n (drop k xs) ≡ xs
+from_start k n xs z h = rw z (take_all n xs h)
+
 pub loop-code-init : goal.loop-code-init
-loop-code-init c = starts (search rules)
+loop-code-init c = starts (search (rules, from_start))
 
 pub overflow_add-b : goal.overflow_add-b
 overflow_add-b c =
