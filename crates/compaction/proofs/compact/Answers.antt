@@ -1,4 +1,6 @@
 -- `compact` trims the size, then repeats steps. Assumes nothing.
+use mathlib.Core.Path.{◌≡◌}
+use mathlib.Core.Bool.{true, false}
 use native.Mathlib.Omega.{arith}
 use Rattle.rules.specs.DeletionAndCompaction.{compacted}
 use Rattle.compaction.proofs.Compacting.{steps_trimmed, going_begun, going_ended, going_stopped, going_on}
@@ -11,12 +13,14 @@ pub returns-then-not-step : goal.returns-then-not-step
 unfolding compacted
 returns-then-not-step c = λ t a.
     let g = c.loop-made.invariant t a in
-    going_stopped g (omega arith) (rw c.if-not-step.true at (c.step.ensures g.here g.asked))
+    let e : c.step.result ≡ false = grind arith in
+    going_stopped g (omega arith) (rw e at (c.step.ensures g.here g.asked))
 
 pub loop-made-preserved : goal.loop-made-preserved
 loop-made-preserved c = λ t a.
     let g = c.loop-made.invariant t a in
-    going_on g (omega arith) (rw c.if-not-step.false at (c.step.ensures g.here g.asked))
+    let e : c.step.result ≡ true = grind arith in
+    going_on g (omega arith) (rw e at (c.step.ensures g.here g.asked))
 
 pub returns : goal.returns
 unfolding compacted

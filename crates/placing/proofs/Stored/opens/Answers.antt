@@ -14,6 +14,7 @@ use Rattle.tree.specs.Members.{Among}
 use Rattle.placing.specs.Search.{Codes}
 use Rattle.placing.proofs.Stored.opens.Goals as goal
 
+-- Only elements of a list are among its first n.
 among_taken : (n : ℕ) (codes : List ℕ) (c : ℕ) → Among c (take n codes) → Among c codes
 among_taken zero codes c m = absurd m
 among_taken (suc n) [] c m = absurd m
@@ -24,12 +25,12 @@ module _ {codes : List ℕ} (w : Codes codes) where
   first_small : get_or codes 0 0 ≤ GREATEST
   first_small = (rw (first_and_rest codes w.some) at w.small) _ (inl refl)
 
-  -- The rest as the part of the slice behind its first element, of any length.
   rest_small : (n c : ℕ) → Among c (take n (drop 1 codes)) → c ≤ GREATEST
   rest_small n c m =
       (rw (first_and_rest codes w.some, take_all (length codes - 1) (drop 1 codes) (omega (arith, length-drop 1 codes))) at w.small) c
       (inr (among_taken n (drop 1 codes) c m))
 
+  -- n codes behind the first are all of them.
   module _ (n : ℕ) (all : length codes ≤ n + 1) where
     first_is_before : codes ≡ get_or codes 0 0 ∷ take n (drop 1 codes)
     first_is_before = first_and_rest codes w.some ∙ ap (λ (r : List ℕ). get_or codes 0 0 ∷ r)
