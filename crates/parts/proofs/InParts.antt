@@ -92,8 +92,8 @@ module _ {base check : List ℤ} {buffer : List ℕ} {n : ℕ} {out : List ℕ} 
           let long : length base' ≡ length base = ap length a.base_is ∙ base_length one.table (length base) in
           shortened document01 (last_cell base) one.table unfinished rest c.unfinished ∙ rw (carried_is, long, ← one_table one.table renders)
 
-    pub part_answered : {held : ℕ} {buffer' : List ℕ} → Carried buffer end n held buffer' → PartAnswered base check buffer n lines held base' check' buffer' out'
-    part_answered {held} {buffer'} k = record {
+    pub part_answered : {from held : ℕ} {buffer' : List ℕ} → Carried buffer from n held buffer' → from ≡ end → PartAnswered base check buffer n lines held base' check' buffer' out'
+    part_answered {held = held} {buffer' = buffer'} k' is = let k : Carried buffer end n held buffer' = rw is at k' in record {
       later = λ rest. cut_answered k rest ∙ ap₂ (λ (b : List ℕ) (x : Answered). behind b x) (sym written) (carried_answered k rest);
       unfinished = rw (carried_is k []) (unbroken_take TOO_LONG (drop end (take n buffer)) c.unfinished);
       whole = render_rules document01 base' check' one.table renders;

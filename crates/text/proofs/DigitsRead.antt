@@ -90,11 +90,11 @@ module _ (bytes : List ℕ) where
             number_left = sym (ap (read_on n) front) ∙ g.number_left;
           })
 
-      pub numeral_read : 48 ≤ b → b ≤ 57 → Going (n * 16 + (b - 48)) (j + 1)
-      numeral_read l u = going_more (numeral b l u) (omega arith)
+      pub numeral_read : {m : ℕ} → 48 ≤ b → b ≤ 57 → m ≡ n * 16 + (b - 48) → Going m (j + 1)
+      numeral_read l u is = rw is (going_more (numeral b l u) (omega arith))
 
-      pub letter_read : 97 ≤ b → b ≤ 102 → Going (n * 16 + (b - 87)) (j + 1)
-      letter_read l u = going_more (letter b l u) (omega arith)
+      pub letter_read : {m : ℕ} → 97 ≤ b → b ≤ 102 → m ≡ n * 16 + (b - 87) → Going m (j + 1)
+      letter_read l u is = rw is (going_more (letter b l u) (omega arith))
 
 -- ---- what was read
 

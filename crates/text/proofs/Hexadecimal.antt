@@ -27,20 +27,20 @@ digits = 48 ∷ 49 ∷ 50 ∷ 51 ∷ 52 ∷ 53 ∷ 54 ∷ 55 ∷ 56 ∷ 57 ∷ 9
 right : ℕ → Bool
 right k = eqb (get_or digits (k - 1) 0) (digit (k - 1))
 
-pub each_digit : (n : ℕ) → n < 16 → get_or digits n 0 ≡ digit n
+each_digit : (n : ℕ) → n < 16 → get_or digits n 0 ≡ digit n
 unfolding digits right digit each_to
 each_digit n h =
     let e : suc n - 1 ≡ n = omega arith in
     rw e at (eqb-true (get_or digits (suc n - 1) 0) (digit (suc n - 1)) (each_to_lem right 16 refl (suc n) (omega arith) (omega arith)))
 
--- The last digit, and the others before it.
-pub hex_step : (l : List ℕ) (at k n : ℕ) → 0 < k →
-    sets (set l (at + (k - 1)) (digit (n % 16))) at (hex (k - 1) (n / 16)) ≡ sets l at (hex k n)
+-- The last digit, which has the place d among them, and the others before it, which say m.
+pub hex_step : (l : List ℕ) (at k n : ℕ) {d m : ℕ} → 0 < k → d ≡ n % 16 → m ≡ n / 16 →
+    sets (set l (at + (k - 1)) (get_or digits d 0)) at (hex (k - 1) m) ≡ sets l at (hex k n)
 unfolding hex
-hex_step l at zero n h = absurd (omega arith)
-hex_step l at (suc k) n h =
+hex_step l at zero n h place others = absurd (omega arith)
+hex_step l at (suc k) n h place others =
     let long : length (hex k (n / 16)) ≡ k = length_hex k (n / 16) in
-    rw (sub-one, sets_append, long) (sets_set_past l at (at + k) (hex k (n / 16)) (digit (n % 16)) (omega (arith, long)))
+    rw (place, others, each_digit (n % 16) (omega arith), sub-one, sets_append, long) (sets_set_past l at (at + k) (hex k (n / 16)) (digit (n % 16)) (omega (arith, long)))
 
 -- ---- characters
 

@@ -23,7 +23,7 @@ try_label-spell-requires-clause-label t c = listed_within document01 c.requires.
 pub try_label-visit-written-requires : goal.try_label-visit-written-requires
 try_label-visit-written-requires t c =
     let led = cell_some c.in-Some.ensures in
-    (omega (arith, c.decreases), rw c.spell.ensures (next_visits c.requires c.listed-code.ensures led.0 (λ z. omega (arith, led.1))))
+    (omega (arith, c.decreases), rw c.spell.ensures (next_visits c.requires c.listed-code.ensures (omega (arith, led.0)) (λ z. omega (arith, led.1))))
 
 pub try_label-cut-requires : goal.try_label-cut-requires
 try_label-cut-requires t c =
@@ -32,7 +32,7 @@ try_label-cut-requires t c =
 pub try_label-returns-clause-lists : goal.try_label-returns-clause-lists
 try_label-returns-clause-lists t c =
     let led = cell_some c.in-Some.ensures in
-    next_lists c.requires c.listed-code.ensures led.0 (λ z. omega (arith, led.1)) (rw c.spell.ensures at c.visit-written.ensures.lists)
+    next_lists c.requires c.listed-code.ensures (omega (arith, led.0)) (λ z. omega (arith, led.1)) (rw c.spell.ensures at c.visit-written.ensures.lists)
 
 pub try_label-returns-clause-key_unchanged : goal.try_label-returns-clause-key_unchanged
 try_label-returns-clause-key_unchanged t c =

@@ -22,4 +22,4 @@ pub overflow_add-result : goal.overflow_add-result
 overflow_add-result c = omega (arith, counted c, lines_few c.args.sheet.now)
 
 pub returns : goal.returns
-returns c = counted c
+returns c = omega (arith, counted c)

@@ -12,6 +12,6 @@ overflow_add-n-then-b-le102 c = omega (arith, number_fits _ c.loop-b.invariant c
 
 pub loop-b-preserved : goal.loop-b-preserved
 loop-b-preserved c = elim c.if-b-ge48.branch [
-  | then-b-ge48+then-b-le57 w ↦ rw w.n-is (numeral_read _ c.loop-b.invariant c.loop-b-test.true (omega arith) (omega arith))
-  | else-b-ge48+then-b-ge97+then-b-le102 w ↦ rw w.n-is (letter_read _ c.loop-b.invariant c.loop-b-test.true (omega arith) (omega arith))
+  | then-b-ge48+then-b-le57 w ↦ numeral_read _ c.loop-b.invariant c.loop-b-test.true (omega arith) (omega arith) (omega (arith, w.n-is))
+  | else-b-ge48+then-b-ge97+then-b-le102 w ↦ letter_read _ c.loop-b.invariant c.loop-b-test.true (omega arith) (omega arith) (omega (arith, w.n-is))
 ]
