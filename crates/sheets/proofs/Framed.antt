@@ -9,7 +9,7 @@ use Rattle.std.specs.Prelude.{Some, None}
 use Prim.Native.Nat.{ℕ, zero, suc, ◌+◌, ◌*◌, ◌-◌, ◌≤◌, ◌<◌, min}
 use native.Mathlib.Omega.{arith}
 use lib.ListN.{length, get_or, take, drop, length-take, length-drop}
-use lib.Seq.{length-take-le, take-add, take-take, drop-drop, get_or-take}
+use lib.Seq.{length-take-le, take-add, take-take, drop-drop}
 use lib.Dec.{eqb}
 use borrow.Author.Tests.{eq-eqb, eqb-true, lt-ltb, le-ltb}
 use Rattle.numbers.proofs.Cases.{lt_or_ge}
@@ -60,17 +60,6 @@ module _ (rest : List ℕ) (end : ℕ) where
       (λ (h : end < length rest). rw (lt-ltb end (length rest) h) (eq-eqb (get_or rest end 0) LF (f h)))
       (λ (h : length rest ≤ end). rw (le-ltb end (length rest) h) (eq-eqb (length rest) end (omega arith)))
       (lt_or_ge end (length rest))
-
--- ---- where the first line ends
-
-first_order : {rest : List ℕ} {m n : ℕ} → FirstLine rest m → FirstLine rest n → n ≤ m
-first_order {rest} {m} {n} f g = ⊎_elim
-    (λ (h : m < n). absurd (g.unbroken m (omega (arith, length-take-le n rest g.within)) (get_or-take n rest m 0 h ∙ f.ended (omega (arith, g.within)))))
-    (λ (h : n ≤ m). h)
-    (lt_or_ge m n)
-
-pub first_same : {rest : List ℕ} {m n : ℕ} → FirstLine rest m → FirstLine rest n → parsed (take m rest) ≡ parsed (take n rest)
-first_same {rest} {m} {n} f g = let e : m ≡ n = omega (arith, first_order f g, first_order g f) in rw e
 
 -- ---- a line that is framed
 

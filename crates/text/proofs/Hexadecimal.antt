@@ -27,7 +27,7 @@ digits = 48 ∷ 49 ∷ 50 ∷ 51 ∷ 52 ∷ 53 ∷ 54 ∷ 55 ∷ 56 ∷ 57 ∷ 9
 right : ℕ → Bool
 right k = eqb (get_or digits (k - 1) 0) (digit (k - 1))
 
-each_digit : (n : ℕ) → n < 16 → get_or digits n 0 ≡ digit n
+pub each_digit : (n : ℕ) → n < 16 → get_or digits n 0 ≡ digit n
 unfolding digits right digit each_to
 each_digit n h =
     let e : suc n - 1 ≡ n = omega arith in
