@@ -1,6 +1,7 @@
 -- What an option tells of the number that it was made from, of which 0 is none; and an option made by a test. Assumes nothing.
-use Rattle.std.proofs.Common.{◌≡◌, refl, sym, ap, ◌∙◌, ℕ, zero, suc, ◌≤◌, Bool, true, false, Some, None, arith}
+use Rattle.std.proofs.Common.{◌≡◌, refl, sym, ap, ◌∙◌, ℕ, zero, suc, ◌≤◌, Bool, true, false, Option, Some, None, arith}
 use Rattle.std.specs.Bool.{then_some}
+use Rattle.std.specs.Option.{option_or}
 use Rattle.rules.specs.declared.Cell.{Cell}
 use Rattle.rules.specs.declared.Row.{Row}
 use Rattle.rules.specs.Options.{some_number, some_cell, some_row}
@@ -41,3 +42,13 @@ then_cell false h k = ap some_cell (k refl)
 pub then_row : (b : Bool) {n m : ℕ} → (b ≡ true → (1 ≤ n) × (n ≡ m)) → (b ≡ false → 0 ≡ m) → then_some b (record { 0 = n }) ≡ some_row m
 then_row true h k = sym (is_some_row _ (h refl).0) ∙ ap some_row (h refl).1
 then_row false h k = ap some_row (k refl)
+
+-- ---- one option or another: so `step` stays proved where a code is put in the place of none, if that code is none too
+
+pub or_none : (r d : Option ℕ) → option_or r d ≡ None → r ≡ None
+or_none None d e = refl
+or_none (Some n) d e = cc
+
+pub or_some : (r : Option ℕ) {m : ℕ} → option_or r None ≡ Some m → r ≡ Some m
+or_some None e = cc
+or_some (Some n) e = e
