@@ -1,4 +1,5 @@
 -- `insert` looks the identifier up; it answers PRESENT, or extends the table at the node where the walk stopped. Assumes nothing.
+use Rattle.std.proofs.Common.{◌≡◌, Some, None, rules}
 use Rattle.finding.proofs.KnownSound.{enough, few}
 use Rattle.insertion.proofs.Beginning.{is_present, extends, is_carried_out}
 use Rattle.insertion.proofs.insert.Goals as goal
@@ -9,13 +10,18 @@ invariant_of-look_up c =
     record { enough = enough _ _ whole; few = few _ _ whole }
 
 pub returns-in-Some : goal.returns-in-Some
-returns-in-Some c = is_present c.requires c.look_up-looked.ensures c.in-Some.is
+returns-in-Some c =
+    let is : c.look_up-looked.result.row ≡ Some c.in-Some.held = search rules in
+    is_present c.requires c.look_up-looked.ensures is
 
 pub extend-requires : goal.extend-requires
-extend-requires c = (_, extends c.requires c.look_up-looked.ensures c.in_default.is)
+extend-requires c =
+    let is : c.look_up-looked.result.row ≡ None = search rules in
+    (_, extends c.requires c.look_up-looked.ensures is)
 
 pub returns : goal.returns
 returns c =
     let i = c.requires in
     let w = c.look_up-looked.ensures in
-    is_carried_out i w c.in_default.is c.extend.auto.base (c.extend.ensures _ (extends i w c.in_default.is))
+    let is : c.look_up-looked.result.row ≡ None = search rules in
+    is_carried_out i w is c.extend.auto.base (c.extend.ensures _ (extends i w is))
