@@ -69,6 +69,6 @@ pub record LeftByATurn (d' : Desk) : Type 0 where
   pub lines : ℕ
   pub taken : PartTaken d got d' lines
 
--- What each turn finds: the desk with which the program began, or what the turn before left.
+-- What stands at the head of the loop: the desk with which the program began, or what a turn left.
 abbrev pub Found : Desk → Desk → Type 0
 Found begun d = (d ≡ begun) ⊎ LeftByATurn d

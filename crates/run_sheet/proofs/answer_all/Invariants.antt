@@ -1,4 +1,4 @@
--- The loop's invariant: each turn finds the desk with which the program began, or what the turn before left. Assumes nothing.
+-- The loop's invariant: at its head the desk is the one with which the program began, or what a turn left. Assumes nothing.
 use Rattle.run_sheet.specs.Turns.{Found}
 use Rattle.run_sheet.proofs.answer_all.Given as goal
 
