@@ -1,5 +1,5 @@
 -- Two stores into n equal elements. Assumes nothing.
-use mathlib.Core.Path.{◌≡◌, refl}
+use mathlib.Core.Path.{◌≡◌, refl, ap, ◌∙◌}
 use mathlib.Core.List.{List, [], ◌∷◌}
 use Prim.Native.Nat.{ℕ, zero, suc, ◌-◌, ◌≤◌, ◌<◌}
 use native.Mathlib.Omega.{arith}
@@ -21,9 +21,4 @@ all_equal (x ∷ xs) z h =
 
 pub two_stores_by_place : (xs : List ℤ) (x y z : ℤ) → 2 ≤ length xs → ((k : ℕ) → k < length xs → get_or xs k z ≡ z) →
     set (set xs 0 x) 1 y ≡ x ∷ y ∷ replicate (length xs - 2) z
-two_stores_by_place (a ∷ b ∷ xs) x y z n h =
-    let rest : xs ≡ replicate (length xs) z = all_equal xs z (λ k b. h (suc (suc k)) (omega arith)) in
-    let e : length (a ∷ b ∷ xs) - 2 ≡ length xs = omega arith in
-    cc
-two_stores_by_place (a ∷ []) x y z n h = absurd (omega arith)
-two_stores_by_place [] x y z n h = absurd (omega arith)
+two_stores_by_place xs x y z n h = ap (λ (l : List ℤ). set (set l 0 x) 1 y) (all_equal xs z h) ∙ two_stores (length xs) x y z n

@@ -1,5 +1,5 @@
 -- What the program holds from turn to turn, and what a turn comes to.
-use Rattle.std.specs.Prelude.{◌≡◌, true, List, ℕ, ◌+◌, ◌*◌, ◌-◌, ◌≤◌, ◌⊎◌, length, take, Result, Ok, Err}
+use Rattle.std.specs.Prelude.{◌≡◌, true, List, ℕ, ◌+◌, ◌*◌, ◌-◌, ◌≤◌, length, take, Result, Ok, Err}
 use Rattle.rules.specs.WhatTheIndexDoes.{document01}
 use Rattle.rules.specs.ASoundTable.{sound}
 use Rattle.tree.specs.Sheets.{TOO_LONG}
@@ -55,20 +55,7 @@ module _ (d : Desk) (got : Result ℕ Failure) (d' : Desk) where
   Taken (Ok (Last lines)) = LastTaken lines
   Taken (Err e) = got ≡ Err e
 
--- ---- from turn to turn
-
 -- Where the sheet begins all is ready, and nothing is carried over.
 pub record Begins (d : Desk) : Type 0 where
   pub ready : Ready d
   pub nothing : d.held ≡ 0
-
--- The desk is as a turn left it that was not the last.
-pub record LeftByATurn (d' : Desk) : Type 0 where
-  pub d : Desk
-  pub got : Result ℕ Failure
-  pub lines : ℕ
-  pub taken : PartTaken d got d' lines
-
--- What stands at the head of the loop: the desk with which the program began, or what a turn left.
-abbrev pub Found : Desk → Desk → Type 0
-Found begun d = (d ≡ begun) ⊎ LeftByATurn d

@@ -29,6 +29,6 @@ pub record LineRead (rest : List ℕ) (c : Option Command) (end : ℕ) : Type 0 
   pub first : FirstLine rest end
   pub command : parsed (take end rest) ≡ asked_or_none c
 
--- What is read, if it is read: the first line ends there, and this is its command or none. If not, it is no command, wherever it ends.
+-- A line that is read: the first line ends there, and this is its command or none. With none read, it is no command, wherever it ends.
 abbrev pub FramedRead : List ℕ → Option (Option Command × ℕ) → Type 0
 FramedRead rest r = MatchOption r ((end : ℕ) → FirstLine rest end → parsed (take end rest) ≡ maybe.none) (λ c. LineRead rest c.0 c.1)
